@@ -1,0 +1,3 @@
+pub mod Xor
+pub mod Bytes
+pub mod Complement
