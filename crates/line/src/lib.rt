@@ -1,0 +1,7 @@
+// Lines: sealing and opening files under one key, block by block.
+pub mod kind;
+pub mod line;
+pub mod refusal;
+pub mod slip;
+pub mod state;
+mod step;
