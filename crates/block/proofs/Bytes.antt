@@ -135,3 +135,12 @@ flat-blocks =
     (λ a b c d e f g h rest ih fits whole.
         let front = bytes-number a b c d e f g h (fits .0, (fits .1 .0, (fits .1 .1 .0, (fits .1 .1 .1 .0, (fits .1 .1 .1 .1 .0, (fits .1 .1 .1 .1 .1 .0, (fits .1 .1 .1 .1 .1 .1 .0, (fits .1 .1 .1 .1 .1 .1 .1 .0, tt)))))))) in
         λ i. front i ++ ih (fits .1 .1 .1 .1 .1 .1 .1 .1) (omega arith) i)
+
+-- eight bytes stand for a block, and are its bytes
+pub number-fits : (xs : List ℕ) → length xs ≡ 8 → AllBytes xs → IsBlock (number xs)
+number-fits xs e h =
+    subst (λ ys. IsBlock (number ys)) (sym (eight xs e)) (number-block _ _ _ _ _ _ _ _ (subst AllBytes (eight xs e) h))
+
+pub bytes-of-number : (xs : List ℕ) → length xs ≡ 8 → AllBytes xs → bytesOf (number xs) ≡ xs
+bytes-of-number xs e h =
+    ap (λ ys. bytesOf (number ys)) (eight xs e) ∙ bytes-number _ _ _ _ _ _ _ _ (subst AllBytes (eight xs e) h) ∙ sym (eight xs e)

@@ -2,3 +2,4 @@ pub mod Numbers
 pub mod Rules
 pub mod Model
 pub mod Performs
+pub mod Laws

@@ -130,7 +130,7 @@ moved p s (End line file input output) = next s (eventOf p s (End line file inpu
 moved p s (Abandon line file) = next s (eventOf p s (Abandon line file))
 
 -- A buffer with its front overwritten; the rest stays.
-abbrev pub overwritten : List ℕ → List ℕ → List ℕ
+abbrev pub overwritten : {A : Type 0} → List A → List A → List A
 overwritten front old = front ++ drop (length front) old
 
 -- What comes of a call: where the line then stands, the answer or the refusal, and what the output then holds.

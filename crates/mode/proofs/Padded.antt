@@ -7,7 +7,9 @@ use native.Mathlib.Omega.{arith}
 use mathlib.Core.Logic.{_≢_, _⊎_, inl, inr, ⊎-elim}
 use borrow.Author.Tests.{ne-eqb, eqb-true, ltb-true, ltb-false}
 use borrow.Rule.Slice.PartMut.{postOf}
-use lib.Dec.{eqb, ltb}
+use lib.Dec.{eqb, ltb, lit<}
+use Rattle.block.specs.Block.{AllBytes}
+use Rattle.block.proofs.Bytes.{all-append}
 use lib.ListN.{length, getD, set, take, replicate}
 use Rattle.std.proofs.str.Laws.{order}
 use Rattle.std.proofs.shelf.Lists.{ext-getD, getD-append-left, getD-append-right, getD-take, getD-replicate, length-append, length-take-le, length-replicate}
@@ -40,6 +42,18 @@ tail-padded (a ∷ b ∷ c ∷ d ∷ e ∷ []) h = refl
 tail-padded (a ∷ b ∷ c ∷ d ∷ e ∷ f ∷ []) h = refl
 tail-padded (a ∷ b ∷ c ∷ d ∷ e ∷ f ∷ g ∷ []) h = refl
 tail-padded (a ∷ b ∷ c ∷ d ∷ e ∷ f ∷ g ∷ i ∷ tail) h = absurd (omega arith)
+
+-- a padded tail is eight bytes
+pub length-padded : (tail : List ℕ) → length tail < 8 → length (padded tail) ≡ 8
+length-padded tail h =
+    length-append tail (0x80 ∷ replicate (7 - length tail) 0) ∙ omega (arith, length-replicate {A = ℕ} (7 - length tail) 0)
+
+zeros-bytes : (n : ℕ) → AllBytes (replicate n 0)
+zeros-bytes zero = tt
+zeros-bytes (suc n) = (lit< tt, zeros-bytes n)
+
+pub padded-bytes : (tail : List ℕ) → AllBytes tail → AllBytes (padded tail)
+padded-bytes tail h = all-append tail (0x80 ∷ replicate (7 - length tail) 0) h (lit< tt, zeros-bytes (7 - length tail))
 
 last-or-below : (k m : ℕ) → k < suc m → (k < m) ⊎ (k ≡ m)
 last-or-below k m h = elim (ltb k m) as (λ b. ltb k m ≡ b → (k < m) ⊎ (k ≡ m)) [ true ↦ λ e. inl (ltb-true k m e) | false ↦ λ e. inr (omega (arith, ltb-false k m e)) ] refl

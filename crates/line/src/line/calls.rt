@@ -3,7 +3,7 @@ ghost use mathlib.Core.Path.{_≡_};
 ghost use mathlib.Core.Bool.{true, false};
 ghost use mathlib.Core.List.{[]};
 ghost use Rattle.std.specs.Options.{isSome};
-ghost use Rattle.line.specs.Model.{fresh};
+ghost use Rattle.line.specs.Laws.{Laws};
 ghost use Rattle.line.specs.Model.Call.{Begin, Put, End, Abandon};
 ghost use Rattle.line.specs.Performs.{Performs, HandsBack, Made, begun, taken, sealed, opened, abandoned};
 use crate::kind::Kind;
@@ -20,9 +20,10 @@ use cipher::Cipher;
 use mode::Mode;
 
 impl<K: Kind, C: Cipher, M: Mode> Line<K, C, M> {
-    /// A line just made: idle, its register and all its counts 0.
+    /// A line just made: idle, its register and all its counts 0. It keeps the laws over every list of calls.
     pub fn new(kind: K, cipher: C, mode: M, number: u8) -> Self
-        ensures { λ r. ⌜ Made kind cipher mode number r ⌝ }
+        ensures made { λ r. ⌜ Made kind cipher mode number r ⌝ }
+        ensures laws { λ _. ⌜ Laws (K·Kind .opening kind) (C·Cipher .meaning cipher) (M·Mode .steps mode) number ⌝ }
     {
         let state = State { register: 0, used: 0, files: 0, blocks: 0, running: None };
         Line { kind, cipher, mode, number, state }
