@@ -1,7 +1,7 @@
 -- Blocks and their bytes turn into each other without loss. Assumes nothing.
 use mathlib.Core.Path.{_≡_, refl, sym, ap, subst, _∙_}
 use mathlib.Core.List.{List, [], _∷_, _++_}
-use Prim.Native.Nat.{ℕ, _+_, _-_, _*_, _/_, _%_, _^_, _<_, _≤_}
+use Prim.Native.Nat.{ℕ, suc, _+_, _-_, _*_, _/_, _%_, _^_, _<_, _≤_}
 use native.Mathlib.Omega.{arith}
 use lib.Dec.{lit<}
 use lib.ListN.{length, getD, length-append}
@@ -144,3 +144,8 @@ number-fits xs e h =
 pub bytes-of-number : (xs : List ℕ) → length xs ≡ 8 → AllBytes xs → bytesOf (number xs) ≡ xs
 bytes-of-number xs e h =
     ap (λ ys. bytesOf (number ys)) (eight xs e) ∙ bytes-number _ _ _ _ _ _ _ _ (subst AllBytes (eight xs e) h) ∙ sym (eight xs e)
+
+-- bytes, from what is known of each
+pub typed-bytes : (xs : List ℕ) → ((i : ℕ) → getD xs i 0 < 256) → AllBytes xs
+typed-bytes [] h = tt
+typed-bytes (x ∷ xs) h = (h 0, typed-bytes xs (λ i. h (suc i)))

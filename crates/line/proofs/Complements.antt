@@ -130,7 +130,7 @@ module _ (f g : Step) (number : ℕ) (closed : Closed f) (flipped : FlippedBy f 
         let facts = put-facts number s (length input) (length output) none in
         let r = s .register in
         let bs = blocksOf input in
-        let hb = blocks-all input (hc .0) in
+        let hb = blocks-all input hc in
         let F : List ℕ = joined bytesOf (outs f r bs) in
         let size : length F ≡ 8 * (length input / 8) = length-flat (outs f r bs) ∙ ap (λ n. 8 * n) (length-outs f r bs ∙ length-blocks input) in
         let at = hx (facts .runs) in
@@ -151,7 +151,7 @@ module _ (f g : Step) (number : ℕ) (closed : Closed f) (flipped : FlippedBy f 
         let facts = end-facts number s line file (lastOf false f (s .register) input) (length output) none in
         let short : length input < 8 = sealed-short f (s .register) input (facts .block) (facts .last-is) in
         let P : ℕ = tailNumber input in
-        let hP : IsBlock P = tail-block input (hc .0) short in
+        let hP : IsBlock P = tail-block input hc short in
         let is = sealed-last f (s .register) input short in
         let is′ = sealed-last g x input short in
         let C : ℕ = f (s .register) P .0 in

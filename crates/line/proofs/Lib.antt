@@ -6,3 +6,4 @@ pub mod Causes
 pub mod RoundTrips
 pub mod Complements
 pub mod AllLaws
+pub mod Replays

@@ -268,10 +268,10 @@ module _ (opens : Bool) (f g : Step) (number : ℕ) (closed : Closed f) (undone 
   call-back : (own : ℕ × ℕ) (s : State) (c d : Call) (b : After) → IsBlock (s .register) → Fit c → Own own s → refusalTo p s c ≡ None
       → HandsOn own c (done p s c) d b → Taken-back own s c d
   call-back own s (Begin start) d b hs hc slip none h = subst (Taken-back own s (Begin start)) (sym h) (begin-back own s start none)
-  call-back own s (Put input output) d b hs hc slip none (room, is, fits, bytes) =
-      subst (Taken-back own s (Put input output)) (sym is) (put-back own s input output room hs (hc .0) slip none fits)
-  call-back own s (End line file input output) d b hs hc slip none (room, is, fits, bytes) =
-      subst (Taken-back own s (End line file input output)) (sym is) (end-back own s line file input output room hs (hc .0) slip none fits)
+  call-back own s (Put input output) d b hs hc slip none (room, is, fits) =
+      subst (Taken-back own s (Put input output)) (sym is) (put-back own s input output room hs hc slip none fits)
+  call-back own s (End line file input output) d b hs hc slip none (room, is, fits) =
+      subst (Taken-back own s (End line file input output)) (sym is) (end-back own s line file input output room hs hc slip none fits)
   call-back own s (Abandon line file) d b hs hc slip none h = subst (Taken-back own s (Abandon line file)) (sym h) (abandon-back own s line file slip none)
 
   -- both lists, from the same state

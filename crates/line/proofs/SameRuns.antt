@@ -94,8 +94,8 @@ after-block p closed s c hs hc = choose (refusalTo p s c) (moves c hc)
     choose (Some r) h = hs
     moves : (c : Call) → Fit c → IsBlock (moved p s c .register)
     moves (Begin start) h = h
-    moves (Put input output) h = last-block (p .step) closed (s .register) (blocksOf input) hs (blocks-all input (h .0))
-    moves (End line file input output) h = last-register (p .step) closed (s .register) hs input (h .0) (p .opens)
+    moves (Put input output) h = last-block (p .step) closed (s .register) (blocksOf input) hs (blocks-all input h)
+    moves (End line file input output) h = last-register (p .step) closed (s .register) hs input h (p .opens)
     moves (Abandon line file) h = hs
 
 module _ (opens : Bool) (f g : Step) (number : ℕ) (closed : Closed f) (agree : AgreeOn f g) where
@@ -109,9 +109,9 @@ module _ (opens : Bool) (f g : Step) (number : ℕ) (closed : Closed f) (agree :
   unfolding after written
   after-same s (Begin start) hs hc = refl
   after-same s (Put input output) hs hc =
-      let blocks = blocks-all input (hc .0) in
+      let blocks = blocks-all input hc in
       rw (outs-same f g closed agree (s .register) (blocksOf input) hs blocks, last-same f g closed agree (s .register) (blocksOf input) hs blocks)
-  after-same s (End line file input output) hs hc = rw (lastOf-same f g agree (s .register) hs input (hc .0) opens)
+  after-same s (End line file input output) hs hc = rw (lastOf-same f g agree (s .register) hs input hc opens)
   after-same s (Abandon line file) hs hc = refl
 
   pub run-same : (s : State) (cs : List Call) → IsBlock (s .register) → AllFit cs → run p s cs ≡ run q s cs

@@ -6,7 +6,7 @@ use Prim.Native.Nat.{ℕ, _*_, _≤_}
 use lib.ListN.{length, take, drop}
 use Rattle.std.specs.declared.result.Result.{Result}
 use Rattle.std.specs.declared.result.Result.the-variants.{Ok, Err}
-use Rattle.block.specs.Block.{AllBytes, flip, flipByte}
+use Rattle.block.specs.Block.{flip, flipByte}
 use Rattle.cipher.specs.Meaning.{Meaning, Sound, Same, Complement, inverse, inTurn}
 use Rattle.mode.specs.Steps.{Steps}
 use Rattle.mode.specs.Modes.{Complemented}
@@ -57,8 +57,8 @@ Paired R own (c ∷ cs) (a ∷ xs) (d ∷ ds) (b ∷ ys) =
 -- needed length.
 abbrev pub HandsOn : ℕ × ℕ → Call → After → Call → After → Type 0
 HandsOn own (Begin start) a d b = d ≡ Begin start
-HandsOn own (Put input output) a d b = (room : List ℕ) × (d ≡ Put (wrote a) room) × (length (wrote a) ≤ length room) × AllBytes room
-HandsOn own (End line file input output) a d b = (room : List ℕ) × (d ≡ End (own .0) (own .1) (wrote a) room) × (8 ≤ length room) × AllBytes room
+HandsOn own (Put input output) a d b = (room : List ℕ) × (d ≡ Put (wrote a) room) × (length (wrote a) ≤ length room)
+HandsOn own (End line file input output) a d b = (room : List ℕ) × (d ≡ End (own .0) (own .1) (wrote a) room) × (8 ≤ length room)
 HandsOn own (Abandon line file) a d b = d ≡ Abandon (own .0) (own .1)
 
 -- What the line of the other kind answers: the same, but that an opening end answers the tail's length too.

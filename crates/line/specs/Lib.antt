@@ -3,3 +3,4 @@ pub mod Rules
 pub mod Model
 pub mod Performs
 pub mod Laws
+pub mod Replay

@@ -40,11 +40,11 @@ outputOf (Put input output) = output
 outputOf (End line file input output) = output
 outputOf (Abandon line file) = []
 
--- The arguments are blocks and bytes.
+-- The start value is a block, and the input is bytes. (Of what an output holds nothing is asked.)
 abbrev pub Fit : Call → Type 0
 Fit (Begin start) = IsBlock start
-Fit (Put input output) = AllBytes input × AllBytes output
-Fit (End line file input output) = AllBytes input × AllBytes output
+Fit (Put input output) = AllBytes input
+Fit (End line file input output) = AllBytes input
 Fit (Abandon line file) = Unit {0}
 
 abbrev pub AllFit : List Call → Type 0

@@ -2,6 +2,8 @@
 pub mod kind;
 pub mod line;
 pub mod refusal;
+pub mod replay;
+pub mod request;
 pub mod slip;
 pub mod state;
 mod step;

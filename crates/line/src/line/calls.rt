@@ -61,6 +61,13 @@ impl<K: Kind, C: Cipher, M: Mode> Line<K, C, M> {
         }
     }
 
+    /// Where the line stands.
+    pub fn state(&self) -> State
+        ensures { λ r. ⌜ r ≡ now (self .entry) .state ⌝ }
+    {
+        self.state
+    }
+
     /// The line's number.
     pub fn number(&self) -> u8
         ensures { λ r. ⌜ r ≡ now (self .entry) .number ⌝ }

@@ -5,13 +5,15 @@ ghost use Prim.Native.Nat.{_≤_};
 ghost use lib.ListN.{length};
 ghost use Rattle.std.specs.Joined.{joined};
 ghost use Rattle.block.specs.Block.{bytesOf, blocksOf};
-ghost use Rattle.line.specs.Model.{overwritten, stepOf, outs, lastRegister};
+ghost use Rattle.line.specs.Replay.{inputSize, outputSize, callOf};
+ghost use Rattle.line.specs.Model.{Fit, overwritten, stepOf, outs, lastRegister};
 ghost use Rattle.line.specs.Model.Call.{Begin, Put, End, Abandon};
 ghost use Rattle.line.specs.Performs.{Performs, begun};
 use crate::kind::Kind;
 use crate::line::Line;
 use crate::refusal::Refusal;
 use crate::slip::Slip;
+use crate::request::Request;
 use crate::state::Answer;
 use crate::state::Event;
 use crate::state::State;
@@ -89,5 +91,20 @@ impl<K: Kind, C: Cipher, M: Mode> Line<K, C, M> {
         let number = self.number;
         let opens = self.kind.opens();
         self.state.advance(number, opens, Event::Abandon { line, file })
+    }
+
+    /// One call of a list, on the bytes that are lent to it.
+    pub(crate) fn perform(&mut self, request: Request, input: &[u8], output: &mut [u8]) -> Result<Answer, Refusal>
+        requires read { ⌜ length (now input) ≡ inputSize request ⌝ }
+        requires write { ⌜ length (now output) ≡ outputSize request ⌝ }
+        ensures did { λ r. ⌜ Performs (K·Kind .opening) (M·Mode .steps) (C·Cipher .meaning) (now (self .entry)) (callOf request (now (input .entry)) (now (output .entry))) r (now (output .exit)) (now (self .exit)) ⌝ }
+        ensures fit { λ _. ⌜ Fit (callOf request (now (input .entry)) (now (output .entry))) ⌝ }
+    {
+        match request {
+            Request::Begin { start } => self.begin_step(start),
+            Request::Put { .. } => self.put_step(input, output),
+            Request::End { line, file, .. } => self.end_step(line, file, input, output),
+            Request::Abandon { line, file } => self.abandon_step(line, file),
+        }
     }
 }
