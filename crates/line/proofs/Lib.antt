@@ -1,5 +1,5 @@
 pub mod Blocks
-pub mod Calls
+pub mod Performed
 pub mod Through
 pub mod SameRuns
 pub mod Causes
@@ -7,3 +7,4 @@ pub mod RoundTrips
 pub mod Complements
 pub mod AllLaws
 pub mod Replays
+pub mod Instances

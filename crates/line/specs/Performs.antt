@@ -7,7 +7,7 @@ use Rattle.std.specs.declared.result.Result.{Result}
 use Rattle.std.specs.declared.result.Result.the-variants.{Ok, Err}
 use Rattle.cipher.specs.Meaning.{Meaning}
 use Rattle.mode.specs.Steps.{Steps}
-use Rattle.line.specs.declared.line.Line.{Line}
+use Rattle.line.specs.declared.Line.{Line}
 use Rattle.line.specs.declared.refusal.Refusal.{Refusal}
 use Rattle.line.specs.declared.slip.Slip.{Slip}
 use Rattle.line.specs.declared.slip.Returned.{Returned}

@@ -8,7 +8,7 @@ ghost use Rattle.line.specs.Model.{AllFit, overwritten, params, run, left};
 ghost use Rattle.line.specs.Performs.{paramsOf};
 ghost use Rattle.line.specs.Replay.{bytesFit, calls, answers, outBytes, Replayed};
 use crate::kind::Kind;
-use crate::line::Line;
+use crate::Line;
 use crate::refusal::Refusal;
 use crate::request::Misfit;
 use crate::request::Request;

@@ -23,6 +23,11 @@ impl Slip {
     {
         self.file
     }
+
+    /// Spends the slip of a file that was ended or abandoned.
+    pub(crate) fn spend(self) {
+        let Slip { line: _, file: _ } = self;
+    }
 }
 
 /// What a refused end or abandon hands back: the same slip, and why.

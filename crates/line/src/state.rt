@@ -23,7 +23,7 @@ pub struct State {
 
 /// The last block of a file, worked out before the end is decided.
 #[derive(Clone, Copy)]
-pub struct Last {
+pub(crate) struct Last {
     /// What the mode's step makes of it.
     pub block: u64,
     /// The register that the step leaves.
@@ -34,7 +34,7 @@ pub struct Last {
 
 /// A call, by what decides it: start value, slip numbers and lengths of buffers.
 #[derive(Clone, Copy)]
-pub enum Event {
+pub(crate) enum Event {
     Begin { start: u64 },
     Put { input: usize, output: usize },
     /// Without a `last` block the input has a wrong length.
@@ -59,7 +59,7 @@ pub enum Answer {
 
 impl Answer {
     /// The length of an opened tail; 0 for every other answer.
-    pub fn tail(self) -> usize
+    pub(crate) fn tail(self) -> usize
         ensures { λ r. ⌜ r ≡ openedTail self ⌝ }
     {
         match self {

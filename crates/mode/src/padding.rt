@@ -2,12 +2,15 @@
 ghost use mathlib.Core.Path.{_≡_};
 ghost use Rattle.mode.specs.Pad.{pad as padOf, tailLength};
 
+/// The bytes of a block.
+const BLOCK: usize = 8;
+
 /// A tail of 0 to 7 bytes with its pad, or nothing where no pad fits.
 pub fn pad(tail: &[u8]) -> Option<[u8; 8]>
     ensures { λ r. ⌜ r ≡ padOf (now (tail .entry)) ⌝ }
 {
     let n = tail.len();
-    if n >= 8 {
+    if n >= BLOCK {
         return None;
     }
     let mut block = [0u8; 8];

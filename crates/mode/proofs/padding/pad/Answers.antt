@@ -14,4 +14,4 @@ returns c =
     ap
     (λ front. Some (set (front ++ postOf 0 (length (c .args .tail .now) - 0) (0 ∷ 0 ∷ 0 ∷ 0 ∷ 0 ∷ 0 ∷ 0 ∷ 0 ∷ [])) (length (c .args .tail .now)) 0x80))
     (c .copy-from-slice .ensures .after)
-    ∙ written (c .args .tail .now) (c .if-n-ge8 .left)
+    ∙ written (c .args .tail .now) (c .if-n-ge-BLOCK .left)
