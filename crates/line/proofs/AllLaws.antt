@@ -15,6 +15,7 @@ use Rattle.line.proofs.Through.{FlippedBy, closed, undoing}
 use Rattle.line.proofs.SameRuns.{equal-runs}
 use Rattle.line.proofs.RoundTrips.{round-trips}
 use Rattle.line.proofs.Complements.{complement-runs}
+use Rattle.line.proofs.Instances.{examples}
 
 -- the sealing steps of CBC, CFB and OFB carry a complement on
 flipping : (mode : Steps) → Complemented mode → (c d : Meaning) → Complement c d → FlippedBy (mode .sealing c) (mode .sealing d)
@@ -44,4 +45,5 @@ laws opens cipher mode number sound lawful = record {
       (ciphers.cancel-after cipher second third sound s same);
   complement = λ chained other t h.
       complement-runs (mode .sealing cipher) (mode .sealing other) number (closed mode lawful false cipher sound) (flipping mode chained cipher other h);
+  examples = examples;
 }

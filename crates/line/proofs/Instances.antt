@@ -13,8 +13,7 @@ use Rattle.block.proofs.Complement.{flip-left}
 use Rattle.cipher.specs.Meaning.{Sound}
 use Rattle.mode.specs.Modes.{ctr}
 use Rattle.line.specs.Model.{Call, Begin, Put, params, after, run, outs, lastRegister, written}
-use Rattle.line.specs.Laws.{Complements}
-use Rattle.line.specs.Examples.{mixing, ComplementExamples}
+use Rattle.line.specs.Laws.{Complements, mixing, ComplementExamples}
 
 sound-mixing : (a : ℕ) → IsBlock a → Sound (mixing a)
 sound-mixing a h = record {

@@ -5,6 +5,6 @@ pub mod SameRuns
 pub mod Causes
 pub mod RoundTrips
 pub mod Complements
+pub mod Instances
 pub mod AllLaws
 pub mod Replays
-pub mod Instances

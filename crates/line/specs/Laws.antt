@@ -3,13 +3,14 @@ use mathlib.Core.Path.{_≡_}
 use mathlib.Core.Bool.{Bool, true, false, not}
 use mathlib.Core.List.{List, [], _∷_, _++_, map}
 use Prim.Native.Nat.{ℕ, _*_, _≤_}
+use lib.Bits.{bitXor}
 use lib.ListN.{length, take, drop}
 use Rattle.std.specs.declared.result.Result.{Result}
 use Rattle.std.specs.declared.result.Result.the-variants.{Ok, Err}
-use Rattle.block.specs.Block.{flip, flipByte}
+use Rattle.block.specs.Block.{IsBlock, flip, flipByte}
 use Rattle.cipher.specs.Meaning.{Meaning, Sound, Same, Complement, inverse, inTurn}
 use Rattle.mode.specs.Steps.{Steps}
-use Rattle.mode.specs.Modes.{Complemented}
+use Rattle.mode.specs.Modes.{Complemented, ctr}
 use Rattle.line.specs.declared.refusal.Refusal.{Refusal}
 use Rattle.line.specs.declared.state.Answer.{Answer}
 use Rattle.line.specs.declared.state.Answer.the-variants.{Begun, Taken, Sealed, Opened, Abandoned}
@@ -111,6 +112,17 @@ AllComplement (a ∷ xs) (b ∷ ys) = Complements a b × AllComplement xs ys
 abbrev pub ComplementRuns : Params → Params → Type 0
 ComplementRuns p q = (cs : List Call) → AllFit cs → AllComplement (run p fresh cs) (run q fresh (map flipStart cs))
 
+-- The cipher that mixes one block into every other.
+abbrev pub mixing : ℕ → Meaning
+mixing a = record { E = λ b. bitXor b a; D = λ b. bitXor b a }
+
+-- There are ciphers that the complement law speaks of, and in CTR it is false of them.
+pub record ComplementExamples : Type 0 where
+  pub sound : (a : ℕ) → IsBlock a → Sound (mixing a)
+  -- each is its own complement
+  pub complement : (a : ℕ) → Complement (mixing a) (mixing a)
+  pub ctr-fails : (number : ℕ) → ComplementRuns (params false ctr (mixing 0) number) (params false ctr (mixing 0) number) → ⊥
+
 -- The laws of a line of this kind, over this cipher, in this mode, under this number.
 pub record Laws (opens : Bool) (cipher : Meaning) (mode : Steps) (number : ℕ) : Type 0 where
   -- with a line of the other kind, over a cipher that means the same
@@ -125,3 +137,4 @@ pub record Laws (opens : Bool) (cipher : Meaning) (mode : Steps) (number : ℕ) 
   -- sealing lines in CBC, CFB and OFB, with one over a complement of this cipher
   pub complement : Complemented mode → (other : Meaning) → Sound other → Complement cipher other
       → ComplementRuns (params false mode cipher number) (params false mode other number)
+  pub examples : ComplementExamples

@@ -11,7 +11,6 @@ pub mod slip;
 pub mod state;
 mod step;
 mod steps;
-pub mod theorems;
 
 ghost use Rattle.line.specs.Rules.{Bounded};
 use state::State;

@@ -2,6 +2,7 @@
 use mathlib.Core.Path.{_≡_}
 use mathlib.Core.List.{List, [], _∷_}
 use Prim.Native.Nat.{ℕ}
+use Rattle.misty1.specs.Tables.{S7, S9}
 use Rattle.misty1.specs.Schedule.{keyWords, subkeyOf}
 use Rattle.misty1.specs.Rounds.{misty1}
 
@@ -13,6 +14,10 @@ abbrev pub ExampleSubkey : Type 0
 ExampleSubkey =
     subkeyOf (keyWords exampleKey)
     ≡ 0xcf51 ∷ 0x8e7f ∷ 0x5e29 ∷ 0x673a ∷ 0xcdbc ∷ 0x07d6 ∷ 0xbf35 ∷ 0x5e11 ∷ []
+
+-- The standard's own example of a place in S7, and the first entry of S9.
+abbrev pub ExampleEntries : Type 0
+ExampleEntries = (S7 0x53 ≡ 0x57) × (S9 0x000 ≡ 0x1c3)
 
 -- the two blocks of the example, enciphered
 abbrev pub exampleEnciphered : ℕ × ℕ
