@@ -6,10 +6,11 @@ use crate::state::State;
 
 impl<K, C, M> Line<K, C, M> {
     /// Where the line stands.
-    pub(crate) fn state(&self) -> State
+    pub fn state(&self) -> State
         ensures { λ r. ⌜ r ≡ now (self .entry) .state ⌝ }
     {
-        self.state
+        let Line { state, .. } = self;
+        *state
     }
 
     /// The line's number.

@@ -13,7 +13,7 @@ pub enum Request {
 
 impl Request {
     /// How many bytes of input the call takes.
-    pub(crate) fn input_size(self) -> usize
+    pub fn input_size(self) -> usize
         ensures { λ r. ⌜ r ≡ inputSize self ⌝ }
     {
         match self {
@@ -24,7 +24,7 @@ impl Request {
     }
 
     /// How many bytes of output it is lent.
-    pub(crate) fn output_size(self) -> usize
+    pub fn output_size(self) -> usize
         ensures { λ r. ⌜ r ≡ outputSize self ⌝ }
     {
         match self {

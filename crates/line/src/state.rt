@@ -43,7 +43,7 @@ pub(crate) enum Event {
 }
 
 /// What an accepted call answers.
-#[derive(Clone, Copy, PartialEq, Eq)]
+#[derive(Clone, Copy, PartialEq, Eq, Debug)]
 pub enum Answer {
     /// The numbers of the slip that a begin made.
     Begun { line: u8, file: u16 },
