@@ -1,4 +1,6 @@
 // Blocks of 64 bits and the eight bytes that they are written as, the first byte the most significant.
+#![tactic(auto)]
+
 ghost use Rattle.std.specs.Prelude.{◌≡◌};
 ghost use Rattle.block.specs.Block.{number, bytes_of, flip as complement};
 

@@ -1,4 +1,6 @@
 // Ciphers on blocks of 64 bits: what they mean, the inverse of one, and two in turn.
+#![tactic(auto)]
+
 ghost use Rattle.std.specs.Prelude.{◌≡◌};
 ghost use Rattle.cipher.specs.Meaning.{Meaning, Sound, inverse, in_turn};
 ghost use Rattle.cipher.specs.Combined.{inverse_means, then_means};

@@ -1,4 +1,6 @@
 // Lines: sealing and opening files under one key, block by block.
+#![tactic(auto)]
+
 mod calls;
 pub mod kind;
 mod opening;

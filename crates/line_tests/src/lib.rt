@@ -1,5 +1,7 @@
 // The tests of lines: their calls, refusals, limits, pads, modes and vectors. They have a crate of their own, since a crate with
 // tests is proved twice.
+#![tactic(auto)]
+
 #[cfg(test)]
 mod buffers;
 #[cfg(test)]

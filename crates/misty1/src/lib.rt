@@ -1,4 +1,6 @@
 // MISTY1, the block cipher with eight rounds (ISO/IEC 18033-3:2010, 4.3; RFC 2994).
+#![tactic(auto)]
+
 ghost use Rattle.std.specs.Prelude.{◌≡◌, ℕ, ◌^◌, ◌<◌, slice_index};
 ghost use Rattle.misty1.specs.Schedule.{subkey_of};
 

@@ -1,4 +1,6 @@
 // Modes of operation over any cipher, one file a mode, and the pad of a file's last block.
+#![tactic(auto)]
+
 pub mod cbc;
 pub mod cfb;
 pub mod ctr;

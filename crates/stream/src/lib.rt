@@ -1,4 +1,6 @@
 // Blocks through a mode, one after another: the whole blocks of a buffer, and the last block of a file with its pad.
+#![tactic(auto)]
+
 pub mod last;
 
 ghost use Rattle.std.specs.Prelude.{◌≡◌, ◌≤◌, length};

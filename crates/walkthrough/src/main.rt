@@ -1,4 +1,6 @@
 // A pay file carried through the lines of the library from beginning to end, with a note for each step.
+#![tactic(auto)]
+
 mod carry;
 mod list;
 mod pay;

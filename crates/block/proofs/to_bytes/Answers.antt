@@ -3,4 +3,4 @@ use Rattle.block.proofs.to_bytes.Goals as goal
 
 pub returns : goal.returns
 unfolding bytes_of
-returns c = c.to-be-bytes.ensures
+returns c = c.to_be_bytes.ensures

@@ -3,4 +3,4 @@ use Rattle.line.proofs.Line.abandon.Goals as goal
 
 pub returns-in-Ok : goal.returns-in-Ok
 returns-in-Ok g c =
-    record { did = abandoned_is g.K.Kind.opening g.M.Mode.steps g.C.Cipher.meaning c.args.self.now c.abandon-step.new.self _ _ c.args.slip.line c.args.slip.file c.in-Ok.ensures; slip = tt }
+    record { did = abandoned_is g.K.Kind.opening g.M.Mode.steps g.C.Cipher.meaning c.args.self.now c.abandon_step.new.self _ _ c.args.slip.line c.args.slip.file c.in-Ok.ensures; slip = tt }

@@ -4,12 +4,12 @@ use Rattle.line.proofs.replay.bytes_fit.Goals as goal
 
 pub returns-then-reads-input : goal.returns-then-reads-input
 returns-then-reads-input c =
-    sym (fits_not c.args.requests.now c.loop-request.request-index _ c.loop-request.input c.loop-request.output c.input-size-reads.result c.output-size-writes.result c.loop-request-test.true c.input-size-reads.ensures c.output-size-writes.ensures c.then-reads-input.either)
+    sym (fits_not c.args.requests.now c.loop-request.request-index _ c.loop-request.input c.loop-request.output c.input_size-reads.result c.output_size-writes.result c.loop-request-test.true c.input_size-reads.ensures c.output_size-writes.ensures c.then-reads-input.either)
     ∙ c.loop-request.invariant
 
 pub loop-request-preserved : goal.loop-request-preserved
 loop-request-preserved c =
-    fits_more c.args.requests.now c.loop-request.request-index _ c.loop-request.input c.loop-request.output c.input-size-reads.result c.output-size-writes.result c.loop-request-test.true c.input-size-reads.ensures c.output-size-writes.ensures c.if-reads-input.false c.if-writes-output.false
+    fits_more c.args.requests.now c.loop-request.request-index _ c.loop-request.input c.loop-request.output c.input_size-reads.result c.output_size-writes.result c.loop-request-test.true c.input_size-reads.ensures c.output_size-writes.ensures c.if-reads-input.false c.if-writes-output.false
     ∙ c.loop-request.invariant
 
 pub returns : goal.returns

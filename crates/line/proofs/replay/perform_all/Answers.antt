@@ -7,32 +7,32 @@ use Rattle.line.specs.Replay.{output_size, call_of}
 use Rattle.line.proofs.Replays.{within, one_more_at, all_done}
 use Rattle.line.proofs.replay.perform_all.Goals as goal
 
-pub overflow-add-read-to : goal.overflow-add-read-to
-overflow-add-read-to g c =
+pub overflow_add-read_to : goal.overflow_add-read_to
+overflow_add-read_to g c =
     let old = c.args.line.now in
     let p = params_of g.K.Kind.opening g.M.Mode.steps g.C.Cipher.meaning old in
-    let (reads, writes) = within p old.state c.args.requests.now c.args.inputs.now c.args.outputs.now c.args.replies.now c.loop-i.i c.loop-i.read c.loop-i.written c.loop-i.line.state c.loop-i.outputs c.loop-i.replies (Begin 0) c.input-size.result (output_size (get_or c.args.requests.now c.loop-i.i (Begin 0))) c.loop-i-test.true c.loop-i.invariant.0 c.input-size.ensures refl in
+    let (reads, writes) = within p old.state c.args.requests.now c.args.inputs.now c.args.outputs.now c.args.replies.now c.loop-i.i c.loop-i.read c.loop-i.written c.loop-i.line.state c.loop-i.outputs c.loop-i.replies (Begin 0) c.input_size.result (output_size (get_or c.args.requests.now c.loop-i.i (Begin 0))) c.loop-i-test.true c.loop-i.invariant.0 c.input_size.ensures refl in
     search rules
 
-pub overflow-add-written-to : goal.overflow-add-written-to
-overflow-add-written-to g c =
+pub overflow_add-written_to : goal.overflow_add-written_to
+overflow_add-written_to g c =
     let old = c.args.line.now in
     let p = params_of g.K.Kind.opening g.M.Mode.steps g.C.Cipher.meaning old in
-    let (reads, writes) = within p old.state c.args.requests.now c.args.inputs.now c.args.outputs.now c.args.replies.now c.loop-i.i c.loop-i.read c.loop-i.written c.loop-i.line.state c.loop-i.outputs c.loop-i.replies (Begin 0) c.input-size.result c.output-size.result c.loop-i-test.true c.loop-i.invariant.0 c.input-size.ensures c.output-size.ensures in
+    let (reads, writes) = within p old.state c.args.requests.now c.args.inputs.now c.args.outputs.now c.args.replies.now c.loop-i.i c.loop-i.read c.loop-i.written c.loop-i.line.state c.loop-i.outputs c.loop-i.replies (Begin 0) c.input_size.result c.output_size.result c.loop-i-test.true c.loop-i.invariant.0 c.input_size.ensures c.output_size.ensures in
     search rules
 
-pub slice-bounds-perform-end : goal.slice-bounds-perform-end
-slice-bounds-perform-end g c =
+pub slice_bounds-perform-end : goal.slice_bounds-perform-end
+slice_bounds-perform-end g c =
     let old = c.args.line.now in
     let p = params_of g.K.Kind.opening g.M.Mode.steps g.C.Cipher.meaning old in
-    let (reads, writes) = within p old.state c.args.requests.now c.args.inputs.now c.args.outputs.now c.args.replies.now c.loop-i.i c.loop-i.read c.loop-i.written c.loop-i.line.state c.loop-i.outputs c.loop-i.replies (Begin 0) c.input-size.result c.output-size.result c.loop-i-test.true c.loop-i.invariant.0 c.input-size.ensures c.output-size.ensures in
+    let (reads, writes) = within p old.state c.args.requests.now c.args.inputs.now c.args.outputs.now c.args.replies.now c.loop-i.i c.loop-i.read c.loop-i.written c.loop-i.line.state c.loop-i.outputs c.loop-i.replies (Begin 0) c.input_size.result c.output_size.result c.loop-i-test.true c.loop-i.invariant.0 c.input_size.ensures c.output_size.ensures in
     search rules
 
-pub slice-bounds-perform-end-in-loop-i : goal.slice-bounds-perform-end-in-loop-i
-slice-bounds-perform-end-in-loop-i g c =
+pub slice_bounds-perform-end-in-loop-i : goal.slice_bounds-perform-end-in-loop-i
+slice_bounds-perform-end-in-loop-i g c =
     let old = c.args.line.now in
     let p = params_of g.K.Kind.opening g.M.Mode.steps g.C.Cipher.meaning old in
-    let (reads, writes) = within p old.state c.args.requests.now c.args.inputs.now c.args.outputs.now c.args.replies.now c.loop-i.i c.loop-i.read c.loop-i.written c.loop-i.line.state c.loop-i.outputs c.loop-i.replies (Begin 0) c.input-size.result c.output-size.result c.loop-i-test.true c.loop-i.invariant.0 c.input-size.ensures c.output-size.ensures in
+    let (reads, writes) = within p old.state c.args.requests.now c.args.inputs.now c.args.outputs.now c.args.replies.now c.loop-i.i c.loop-i.read c.loop-i.written c.loop-i.line.state c.loop-i.outputs c.loop-i.replies (Begin 0) c.input_size.result c.output_size.result c.loop-i-test.true c.loop-i.invariant.0 c.input_size.ensures c.output_size.ensures in
     search rules
 
 pub loop-i-preserved : goal.loop-i-preserved
@@ -42,20 +42,20 @@ loop-i-preserved g c =
     let line = c.loop-i.line in
     let read = c.loop-i.read in
     let wrote = c.loop-i.written in
-    let x = c.input-size.result in
-    let y = c.output-size.result in
+    let x = c.input_size.result in
+    let y = c.output_size.result in
     let new = c.perform.new.self in
     let did = c.perform.ensures.did in
     let (sofar, kind, cipher, mode, number) = c.loop-i.invariant in
     let same : params_of g.K.Kind.opening g.M.Mode.steps g.C.Cipher.meaning line ≡ p =
     λ i. params (g.K.Kind.opening (kind i)) (g.M.Mode.steps (mode i)) (g.C.Cipher.meaning (cipher i)) (number i) in
     let call = call_of (get_or c.args.requests.now c.loop-i.i (Begin 0)) (take (read + x - read) (drop read c.args.inputs.now)) (take (wrote + y - wrote) (drop wrote c.loop-i.outputs)) in
-    let (reads, writes) = within p old.state c.args.requests.now c.args.inputs.now c.args.outputs.now c.args.replies.now c.loop-i.i read wrote line.state c.loop-i.outputs c.loop-i.replies (Begin 0) x y c.loop-i-test.true sofar c.input-size.ensures c.output-size.ensures in
+    let (reads, writes) = within p old.state c.args.requests.now c.args.inputs.now c.args.outputs.now c.args.replies.now c.loop-i.i read wrote line.state c.loop-i.outputs c.loop-i.replies (Begin 0) x y c.loop-i-test.true sofar c.input_size.ensures c.output_size.ensures in
     let lent : wrote + y - wrote ≤ length (drop wrote c.loop-i.outputs) = omega (arith, writes, length-drop wrote c.loop-i.outputs) in
     let size : length c.perform.new.output ≡ wrote + y - wrote = c.perform.auto.output ∙ length-take-le (wrote + y - wrote) (drop wrote c.loop-i.outputs) lent in
     let back : read + x - read ≡ x = omega arith in
     let back' : wrote + y - wrote ≡ y = omega arith in (
-      one_more_at p old.state c.args.requests.now c.args.inputs.now c.args.outputs.now c.args.replies.now c.loop-i.i read wrote line.state new.state c.loop-i.outputs c.loop-i.replies (Begin 0) c.perform.result c.perform.new.output (read + x - read) (wrote + y - wrote) (read + x) (wrote + y) c.loop-i-test.true c.requires.room sofar (back ∙ c.input-size.ensures) (back' ∙ c.output-size.ensures) (ap (λ n. read + n) c.input-size.ensures) (ap (λ n. wrote + n) c.output-size.ensures)
+      one_more_at p old.state c.args.requests.now c.args.inputs.now c.args.outputs.now c.args.replies.now c.loop-i.i read wrote line.state new.state c.loop-i.outputs c.loop-i.replies (Begin 0) c.perform.result c.perform.new.output (read + x - read) (wrote + y - wrote) (read + x) (wrote + y) c.loop-i-test.true c.requires.room sofar (back ∙ c.input_size.ensures) (back' ∙ c.output_size.ensures) (ap (λ n. read + n) c.input_size.ensures) (ap (λ n. wrote + n) c.output_size.ensures)
           (subst (λ q. after q line.state call ≡ record { state = new.state; answer = c.perform.result; out = c.perform.new.output }) same did.did)
           c.perform.ensures.fit size,
       did.kind ∙ kind,

@@ -8,5 +8,5 @@ pub returns : goal.returns
 returns c =
     ap
     (λ front. Some (set (front ++ post_of 0 (length c.args.tail.now - 0) (0 ∷ 0 ∷ 0 ∷ 0 ∷ 0 ∷ 0 ∷ 0 ∷ 0 ∷ [])) (length c.args.tail.now) 0x80))
-    c.copy-from-slice.ensures.after
+    c.copy_from_slice.ensures.after
     ∙ written c.args.tail.now c.if-n-ge-BLOCK.false

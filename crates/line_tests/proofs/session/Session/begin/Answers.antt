@@ -3,8 +3,8 @@ use Rattle.line_tests.specs.Holds.{holds}
 use Rattle.line_tests.proofs.Kept.{begin_holds, begin_idle, refused_holds}
 use Rattle.line_tests.proofs.session.Session.begin.Goals as goal
 
-pub invariant-of-self : goal.invariant-of-self
-invariant-of-self g c =
+pub invariant_of-self : goal.invariant_of-self
+invariant_of-self g c =
     let new = c.begin.new.self in (
       ap (holds new) c.replace.ensures.after
           ∙ begin_holds g.K.Kind.opening g.M.Mode.steps _ c.args.self.now.line new c.args.start c.in-Ok.slip _ c.in-Ok.ensures,
@@ -17,7 +17,7 @@ unreachable-requires g c =
     begin_idle g.K.Kind.opening g.M.Mode.steps _ old c.begin.new.self c.args.start _ _ c.in-Some.field-0 c.in-Ok.ensures
     (ap (holds old) (sym c.in-Some.is ∙ c.replace.ensures.value) ∙ c.args.self.now.kept)
 
-pub invariant-of-self-in-Err· : goal.invariant-of-self-in-Err·
-invariant-of-self-in-Err· g c =
+pub invariant_of-self-in-Err· : goal.invariant_of-self-in-Err·
+invariant_of-self-in-Err· g c =
     let old = c.args.self.now.line in
     (refused_holds g.K.Kind.opening g.M.Mode.steps _ old c.begin.new.self _ c.in-Err.refusal _ c.args.self.now.slip c.in-Err.ensures c.args.self.now.kept, tt)

@@ -10,13 +10,13 @@ loop-rest-preserved g c =
     let step = step_of c.args.opens (g.M.Mode.steps c.args.mode.now) (g.C.Cipher.meaning c.args.cipher.now) in
     let rest = c.loop-rest.rest.now in
     let at = c.loop-rest.at in
-    let bytes = c.copy-from-slice.new.self in
+    let bytes = c.copy_from_slice.new.self in
     let eight : 8 ≤ length rest = search rules in
     let one : (at + 8) - at ≡ 8 = omega arith in
     subst
     (λ n. Passed step c.args.start c.args.input.now c.args.output.now c.step-given.result.1 (at + 8) (take (length rest - 8) (drop 8 rest)) (put_mid at n c.loop-rest.output bytes))
     (sym one)
-    (passed_more step c.args.start c.args.input.now c.args.output.now c.loop-rest.register at rest c.loop-rest.output c.from-bytes-taken.result c.step-given.result bytes (take (length rest - 8) (drop 8 rest)) c.requires eight c.loop-rest.invariant c.from-bytes-taken.ensures c.step-given.ensures (c.copy-from-slice.ensures.after ∙ c.to-bytes.ensures) (take_rest rest 8))
+    (passed_more step c.args.start c.args.input.now c.args.output.now c.loop-rest.register at rest c.loop-rest.output c.from_bytes-taken.result c.step-given.result bytes (take (length rest - 8) (drop 8 rest)) c.requires eight c.loop-rest.invariant c.from_bytes-taken.ensures c.step-given.ensures (c.copy_from_slice.ensures.after ∙ c.to_bytes.ensures) (take_rest rest 8))
 
 pub returns : goal.returns
 returns g c =
