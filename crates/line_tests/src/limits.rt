@@ -121,3 +121,17 @@ fn retired_key_is_named_before_files(rt: HostRuntime) -> Result<(), Fail> {
     assert_eq!(rt; session.seen().files, 65_535);
     Ok(())
 }
+
+#[test]
+fn the_last_block_is_kept_for_an_end(rt: HostRuntime) -> Result<(), Fail> {
+    let mut last = [0; 8];
+    let mut session = Session::new(Sealing, misty1(KEY)?, Ecb, 7);
+    assert_eq!(rt; session.begin(3), Ok(()));
+    put_all(&rt, &mut session, rt.alloc())?;
+    assert_eq!(rt; session.abandon(), Ok(1_048_575));
+    assert_eq!(rt; session.begin(4), Ok(()));
+    put_refused(&rt, &mut session, &[0; 8], 8, 24);
+    assert_eq!(rt; session.end(&[1], &mut last), Ok((1, 8)));
+    begin_refused(&rt, &mut session, 12);
+    Ok(())
+}

@@ -38,15 +38,15 @@ fn split<K: Ends + Drop + Copy, M: Mode + Drop + Copy>(
     Ok(whole)
 }
 
-fn comes_back<M: Mode + Drop + Copy>(rt: &impl Abort, mode: M) -> Result<(), Fail> {
+fn comes_back<M: Mode + Drop + Copy>(rt: &impl Abort, mode: M, name: &str) -> Result<(), Fail> {
     let sealed = split(rt, Sealing, mode, PLAIN)?;
-    assert_ne!(rt; &sealed, PLAIN);
-    assert_eq!(rt; &split(rt, Opening, mode, &sealed)?, PLAIN);
+    assert_ne!(rt; &sealed, PLAIN, "{name}");
+    assert_eq!(rt; &split(rt, Opening, mode, &sealed)?, PLAIN, "{name}");
     Ok(())
 }
 
 /// Both lines of a file count the same and leave the same register, before its end and after.
-fn counts_alike<M: Mode + Drop + Copy>(rt: &impl Abort, mode: M) -> Result<(), Fail> {
+fn counts_alike<M: Mode + Drop + Copy>(rt: &impl Abort, mode: M, name: &str) -> Result<(), Fail> {
     let (mut sealed, mut opened) = ([0; 40], [0; 40]);
     let (mut last, mut tail) = ([0; 8], [0; 8]);
     let (mut sealing, mut opening) = (begun(rt, Sealing, mode, 7)?, begun(rt, Opening, mode, 7)?);
@@ -54,32 +54,36 @@ fn counts_alike<M: Mode + Drop + Copy>(rt: &impl Abort, mode: M) -> Result<(), F
         sealing.put(PLAIN, &mut sealed),
         opening.put(&sealed, &mut opened),
     );
-    assert_eq!(rt; puts, (Ok(5), Ok(5)));
-    assert_eq!(rt; opening.seen(), sealing.seen());
+    assert_eq!(rt; puts, (Ok(5), Ok(5)), "{name}");
+    assert_eq!(rt; opening.seen(), sealing.seen(), "{name}");
     let ends = (
         sealing.end(&[1, 2, 3, 4], &mut last),
         opening.end(&last, &mut tail),
     );
-    assert_eq!(rt; ends, (Ok((6, 8)), Ok((6, 4))));
-    assert_eq!(rt; opening.seen(), sealing.seen());
-    assert_eq!(rt; (&opened, tail), (PLAIN, [1, 2, 3, 4, 0, 0, 0, 0]));
+    assert_eq!(rt; ends, (Ok((6, 8)), Ok((6, 4))), "{name}");
+    assert_eq!(rt; opening.seen(), sealing.seen(), "{name}");
+    assert_eq!(rt;
+        (&opened, tail),
+        (PLAIN, [1, 2, 3, 4, 0, 0, 0, 0]),
+        "{name}"
+    );
     Ok(())
 }
 
 #[test]
 fn several_puts_are_as_one(rt: HostRuntime) -> Result<(), Fail> {
-    comes_back(&rt, Ecb).note("ecb")?;
-    comes_back(&rt, Cbc).note("cbc")?;
-    comes_back(&rt, Cfb).note("cfb")?;
-    comes_back(&rt, Ofb).note("ofb")?;
-    comes_back(&rt, Ctr).note("ctr")
+    comes_back(&rt, Ecb, "ecb")?;
+    comes_back(&rt, Cbc, "cbc")?;
+    comes_back(&rt, Cfb, "cfb")?;
+    comes_back(&rt, Ofb, "ofb")?;
+    comes_back(&rt, Ctr, "ctr")
 }
 
 #[test]
 fn both_lines_count_alike(rt: HostRuntime) -> Result<(), Fail> {
-    counts_alike(&rt, Ecb).note("ecb")?;
-    counts_alike(&rt, Cbc).note("cbc")?;
-    counts_alike(&rt, Cfb).note("cfb")?;
-    counts_alike(&rt, Ofb).note("ofb")?;
-    counts_alike(&rt, Ctr).note("ctr")
+    counts_alike(&rt, Ecb, "ecb")?;
+    counts_alike(&rt, Cbc, "cbc")?;
+    counts_alike(&rt, Cfb, "cfb")?;
+    counts_alike(&rt, Ofb, "ofb")?;
+    counts_alike(&rt, Ctr, "ctr")
 }

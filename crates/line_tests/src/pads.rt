@@ -44,16 +44,19 @@ fn there_and_back(rt: &impl Abort, tail: &[u8]) -> Result<(), Fail> {
         opening.put(&first, &mut opened),
     );
     let ends = (sealing.end(tail, &mut last), opening.end(&last, &mut found));
+    let length = tail.len();
     assert_eq!(rt;
         (puts, ends),
-        ((Ok(1), Ok(1)), (Ok((2, 8)), Ok((2, tail.len()))))
+        ((Ok(1), Ok(1)), (Ok((2, 8)), Ok((2, length)))),
+        "{length} bytes"
     );
-    assert_eq!(rt; opening.seen(), sealing.seen());
-    assert_eq!(rt; opened, BYTES);
-    assert!(rt; tail.len() < 8);
+    assert_eq!(rt; opening.seen(), sealing.seen(), "{length} bytes");
+    assert_eq!(rt; opened, BYTES, "{length} bytes");
+    assert!(rt; length < 8, "{length} bytes");
     assert_eq!(rt;
-        (&found[0..tail.len()], &found[tail.len()..8]),
-        (tail, &[0xa5; 8][tail.len()..8])
+        (&found[0..length], &found[length..8]),
+        (tail, &[0xa5; 8][length..8]),
+        "{length} bytes"
     );
     Ok(())
 }
@@ -61,7 +64,7 @@ fn there_and_back(rt: &impl Abort, tail: &[u8]) -> Result<(), Fail> {
 #[test]
 fn tails_of_every_length_come_back(rt: HostRuntime) -> Result<(), Fail> {
     for length in 0..8usize {
-        there_and_back(&rt, &BYTES[0..length]).note(format_args!("{length} bytes"))?;
+        there_and_back(&rt, &BYTES[0..length])?;
     }
     Ok(())
 }
