@@ -1,5 +1,6 @@
 // The pay file through a line: sealed by one, opened by another.
-ghost use Rattle.std.specs.Prelude.{◌≡◌, ◌≤◌, true, take};
+ghost use Rattle.std.specs.Prelude.{◌≡◌, ◌≤◌, true, take, Some, IfOk};
+ghost use Rattle.line.specs.Holds.{holds};
 
 use crate::pay::{BODY, FILE, NUMBER, START};
 use crate::trouble::{Trouble, give_up};
@@ -49,11 +50,13 @@ impl Last {
     }
 }
 
-/// Begins a file and puts its whole blocks.
+/// Begins a file and puts its whole blocks. The slip is that of the running file.
 fn begin<K: Kind, M: Mode>(
     line: &mut Line<K, Misty1, M>,
     input: &[u8],
-) -> Result<(Slip, Body), Trouble> {
+) -> Result<(Slip, Body), Trouble>
+    ensures { IfOk result (λ begun. holds line.new (Some begun.0) ≡ true) }
+{
     let mut bytes = [0; 40];
     let slip = line.begin(START)?;
     let begun = line.state();

@@ -16,6 +16,7 @@ use mode::ctr::Ctr;
 use mode::ecb::Ecb;
 use mode::ofb::Ofb;
 use pay::KEY;
+use std::process::ExitCode;
 use trouble::Trouble;
 
 /// The pay file in all the modes.
@@ -58,13 +59,13 @@ fn walk(rt: &HostRuntime) -> Result<(), Trouble> {
     list::lists(rt, cipher)
 }
 
-fn main(rt: HostRuntime) -> Result<(), Trouble> {
+fn main(rt: HostRuntime) -> ExitCode {
     match walk(&rt) {
-        Ok(()) => Ok(()),
+        Ok(()) => ExitCode::SUCCESS,
         Err(trouble) => {
             let why = trouble.text();
             let _ = eprintln!(rt; "walkthrough: {why}");
-            Err(trouble)
+            ExitCode::FAILURE
         }
     }
 }

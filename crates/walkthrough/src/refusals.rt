@@ -1,8 +1,12 @@
 // Calls that are refused.
+ghost use Rattle.std.specs.Prelude.{◌≡◌, ◌≢◌, true, Some, IfOk};
+ghost use Rattle.line.specs.Holds.{holds};
+ghost use Rattle.line.specs.declared.slip.Slip.{Slip};
+
 use crate::carry::{same_state, seal};
 use crate::pay::{FILE, KEY, NUMBER, START};
 use crate::text::word;
-use crate::trouble::{Trouble, give_up};
+use crate::trouble::{Trouble, abandon, give_up};
 use line::Line;
 use line::kind::{Kind, Opening, Sealing};
 use line::slip::{Returned, Slip};
@@ -43,7 +47,10 @@ impl fmt::Display for Attempt {
 }
 
 /// Puts bytes.
-fn put(line: &mut Line<Sealing, Misty1, Cbc>, input: &[u8]) -> Attempt {
+fn put(line: &mut Line<Sealing, Misty1, Cbc>, input: &[u8]) -> Attempt
+    ensures slip { (s : Slip) → holds line.old (Some s) ≡ true → holds line.new (Some s) ≡ true }
+    ensures number { line.new.number ≡ line.old.number }
+{
     let before = line.state();
     let mut output = [0; 16];
     let refused = match line.put(input, &mut output) {
@@ -54,13 +61,16 @@ fn put(line: &mut Line<Sealing, Misty1, Cbc>, input: &[u8]) -> Attempt {
 }
 
 /// Begins, puts 9 bytes and begins again: the last two are refused.
-fn while_running(line: &mut Line<Sealing, Misty1, Cbc>) -> Result<(Slip, [Attempt; 2]), Trouble> {
+fn while_running(line: &mut Line<Sealing, Misty1, Cbc>) -> Result<(Slip, [Attempt; 2]), Trouble>
+    ensures slip { IfOk result (λ r. holds line.new (Some r.0) ≡ true) }
+    ensures number { line.new.number ≡ line.old.number }
+{
     let file = FILE;
     let slip = line.begin(START)?;
     let odd = put(line, &file[0..9]);
     let before = line.state();
     match line.begin(START) {
-        Ok(second) => Err(Trouble::BegunTwice(slip, second)),
+        Ok(_) => unreachable!(),
         Err(refusal) => {
             let again = Attempt::new(Some(refusal.number()), before, line);
             Ok((slip, [odd, again]))
@@ -73,7 +83,10 @@ fn foreign_slip(
     line: &mut Line<Sealing, Misty1, Cbc>,
     own: Slip,
     other: &mut Line<Sealing, Misty1, Cbc>,
-) -> Result<Attempt, Trouble> {
+) -> Result<Attempt, Trouble>
+    requires own { holds line.old (Some own) ≡ true }
+    requires other { line.old.number ≢ other.old.number }
+{
     let mut output = [0; 8];
     let before = line.state();
     let foreign = match other.begin(START) {
@@ -81,17 +94,12 @@ fn foreign_slip(
         Err(refusal) => return Err(give_up(line, own, refusal)),
     };
     match line.end(foreign, b"58\n", &mut output) {
-        Ok(_) => match line.abandon(own) {
-            Ok(_) => Ok(Attempt::new(None, before, line)),
-            Err(back) => Err(Trouble::Unspent(back)),
-        },
+        Ok(_) => unreachable!(),
         Err(Returned { slip, refusal }) => {
             let attempt = Attempt::new(Some(refusal.number()), before, line);
-            match (other.abandon(slip), line.abandon(own)) {
-                (Ok(_), Ok(_)) => Ok(attempt),
-                (Err(back), Ok(_)) | (Ok(_), Err(back)) => Err(Trouble::Unspent(back)),
-                (Err(first), Err(second)) => Err(Trouble::BothUnspent(first, second)),
-            }
+            abandon(other, slip);
+            abandon(line, own);
+            Ok(attempt)
         }
     }
 }
@@ -105,10 +113,8 @@ fn no_pad(line: &mut Line<Opening, Misty1, Cbc>, block: &[u8]) -> Result<Attempt
         Ok(_) => Ok(Attempt::new(None, before, line)),
         Err(Returned { slip, refusal }) => {
             let attempt = Attempt::new(Some(refusal.number()), before, line);
-            match line.abandon(slip) {
-                Ok(_) => Ok(attempt),
-                Err(back) => Err(Trouble::Unspent(back)),
-            }
+            abandon(line, slip);
+            Ok(attempt)
         }
     }
 }

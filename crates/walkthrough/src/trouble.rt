@@ -1,24 +1,25 @@
 // Why the walkthrough stops early.
+ghost use Rattle.std.specs.Prelude.{◌≡◌, true, Some};
+ghost use Rattle.line.specs.Holds.{holds};
+
 use line::Line;
 use line::kind::Kind;
 use line::refusal::Refusal;
 use line::request::Misfit;
-use line::slip::{Returned, Slip};
+use line::slip::Slip;
 use misty1::{KeyRefused, Misty1};
 use mode::Mode;
 use std::alloc::AllocError;
 use std::io;
 
-/// Why the walkthrough stops early. A slip cannot be dropped, so one that no line takes leaves the program in here.
+/// Why the walkthrough stops early.
+#[derive(Drop)]
 pub enum Trouble {
     Output(io::Error),
     Memory(AllocError),
     Key(KeyRefused),
     Refused(Refusal),
     Misfit(Misfit),
-    Unspent(Returned),
-    BothUnspent(Returned, Returned),
-    BegunTwice(Slip, Slip),
 }
 
 impl From<io::Error> for Trouble {
@@ -59,9 +60,17 @@ impl Trouble {
             Trouble::Key(_) => "the key was refused",
             Trouble::Refused(_) => "a call was refused",
             Trouble::Misfit(_) => "the buffers do not hold what the list of calls asks for",
-            Trouble::Unspent(_) | Trouble::BothUnspent(..) => "a slip was not taken",
-            Trouble::BegunTwice(..) => "a file was begun while another one ran",
         }
+    }
+}
+
+/// Abandons the running file with its slip, which a line always takes.
+pub(crate) fn abandon<K: Kind, M: Mode>(line: &mut Line<K, Misty1, M>, slip: Slip)
+    requires { holds line.old (Some slip) ≡ true }
+{
+    match line.abandon(slip) {
+        Ok(_) => {}
+        Err(_) => unreachable!(),
     }
 }
 
@@ -70,9 +79,9 @@ pub(crate) fn give_up<K: Kind, M: Mode>(
     line: &mut Line<K, Misty1, M>,
     slip: Slip,
     refusal: Refusal,
-) -> Trouble {
-    match line.abandon(slip) {
-        Ok(_) => Trouble::Refused(refusal),
-        Err(back) => Trouble::Unspent(back),
-    }
+) -> Trouble
+    requires { holds line.old (Some slip) ≡ true }
+{
+    abandon(line, slip);
+    Trouble::Refused(refusal)
 }

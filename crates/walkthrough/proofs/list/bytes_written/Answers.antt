@@ -1,21 +1,20 @@
 use Rattle.std.proofs.Common.{vec_items, refl, ◌∙◌}
-use Rattle.std.proofs.lemmas.Map.Pairs.{pairs-rest, pairs-rest-more, pairs-rest-all}
+use Rattle.walkthrough.proofs.Pairs.{pairs_rest, pairs_rest_more, pairs_rest_all}
 use Rattle.walkthrough.specs.Second.{bytes_written}
 use Rattle.walkthrough.proofs.Handed.{written_more, written_skip, all_done}
 use Rattle.walkthrough.proofs.list.bytes_written.Goals as goal
 
-pub loop-request-again-in-Continue-extend-from-slice :
-    goal.loop-request-preserved-in-ok-extend-from-slice
-loop-request-again-in-Continue-extend-from-slice c =
-    written_more _ _ _ _ (pairs-rest-more _ _ _ _ c.in-Some.is c.next.ensures.steps) (vec_items c.loop-request.bytes) c.loop-request.rest.now _ _ c.output-size.ensures c.cut.ensures.rest _ _ _ c.in-Ok.answer _ c.in-Ok.is c.cut.ensures.front c.written.ensures c.cut-in-Ok.ensures.front c.in-ok-extend-from-slice.ensures.items
+pub loop-request-preserved-in_ok-extend_from_slice : goal.loop-request-preserved-in_ok-extend_from_slice
+loop-request-preserved-in_ok-extend_from_slice c =
+    written_more _ _ _ _ (pairs_rest_more c.loop-request.request-iterator c.next.new.self _ _ c.in-Some.is c.next.ensures.steps) (vec_items c.loop-request.bytes) c.loop-request.rest.now _ _ c.output_size.ensures c.cut.ensures.rest _ _ _ c.in-Ok.answer _ c.in-Ok.is c.cut.ensures.front c.written.ensures c.cut-in-Ok.ensures.front c.in_ok-extend_from_slice.ensures.items
     ∙ c.loop-request.invariant
 
 pub loop-request-preserved : goal.loop-request-preserved
 loop-request-preserved c =
-    written_skip _ _ _ _ (pairs-rest-more _ _ _ _ c.in-Some.is c.next.ensures.steps) (vec_items c.loop-request.bytes) c.loop-request.rest.now _ _ c.output-size.ensures c.cut.ensures.rest _ c.in-default.is
+    written_skip _ _ _ _ (pairs_rest_more c.loop-request.request-iterator c.next.new.self _ _ c.in-Some.is c.next.ensures.steps) (vec_items c.loop-request.bytes) c.loop-request.rest.now _ _ c.output_size.ensures c.cut.ensures.rest _ c.in_default.is
     ∙ c.loop-request.invariant
 
 pub returns : goal.returns
 unfolding bytes_written
 returns c =
-    all_done (λ l. bytes_written l c.loop-request.rest.now) _ _ (pairs-rest c.loop-request.request-iterator) refl (pairs-rest-all _ _ _ c.in-None.is c.next.ensures.steps) c.loop-request.invariant
+    all_done (λ l. bytes_written l c.loop-request.rest.now) _ _ (pairs_rest c.loop-request.request-iterator) refl (pairs_rest_all c.loop-request.request-iterator c.next.new.self _ c.in-None.is c.next.ensures.steps) c.loop-request.invariant

@@ -1,9 +1,9 @@
 use Rattle.std.proofs.Common.{◌≡◌, ◌++◌, vec_items}
 use Rattle.std.specs.List.{zip}
-use Rattle.std.proofs.lemmas.Map.Pairs.{pairs-rest}
+use Rattle.walkthrough.proofs.Pairs.{pairs_rest}
 use Rattle.walkthrough.specs.Second.{second_calls}
 use Rattle.walkthrough.proofs.list.second_calls.Given as goal
 
 abbrev pub invariant-loop-request : goal.invariant-loop-request
 invariant-loop-request l =
-    vec_items l.calls ++ second_calls (pairs-rest l.request-iterator) ≡ second_calls (zip l.requests l.replies)
+    vec_items l.calls ++ second_calls (pairs_rest l.request-iterator) ≡ second_calls (zip l.requests l.replies)
