@@ -14,7 +14,7 @@ use Rattle.line.specs.Rules.{cause, both, answer, outcome, unless}
 use Rattle.line.specs.Model.{Call, after, moved, refusal_to, event_of}
 use Rattle.line.specs.Model.Call.{Begin, Put, End, Abandon}
 use Rattle.line.specs.Performs.{Performs, HandsBack, params_of, begun, taken, sealed, opened, abandoned}
-use Rattle.line_tests.specs.Holds.{own, holds, Ended, Refusable}
+use Rattle.line.specs.Holds.{own, holds, Ended, Refusable}
 
 -- a line holds the slips that another one with its number, files and running file holds
 pub same_holds : {K C M : Type 0} (old new : Line K C M) (s : Option Slip)

@@ -8,3 +8,4 @@ pub mod Complements
 pub mod Instances
 pub mod AllLaws
 pub mod Replays
+pub mod Kept

@@ -4,3 +4,4 @@ pub mod Model
 pub mod Performs
 pub mod Laws
 pub mod Replay
+pub mod Holds

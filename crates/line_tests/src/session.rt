@@ -1,6 +1,6 @@
 // A line together with the slip of its running file.
 ghost use Rattle.std.specs.Prelude.{◌≡◌, true, Some, None};
-ghost use Rattle.line_tests.specs.Holds.{holds, Ended, Refusable};
+ghost use Rattle.line.specs.Holds.{holds, Ended, Refusable};
 
 use crate::ciphers::{KEY, misty1};
 use line::Line;

@@ -1,2 +1,3 @@
 pub mod Handed
 pub mod Pairs
+pub mod Slips

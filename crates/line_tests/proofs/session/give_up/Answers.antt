@@ -1,4 +1,4 @@
-use Rattle.line_tests.proofs.Kept.{abandon_ends, abandon_refusable}
+use Rattle.line.proofs.Kept.{abandon_ends, abandon_refusable}
 use Rattle.line_tests.proofs.session.give_up.Goals as goal
 
 pub returns : goal.returns

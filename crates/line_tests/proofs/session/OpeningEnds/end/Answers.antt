@@ -1,5 +1,5 @@
 use Rattle.std.proofs.Common.{true}
-use Rattle.line_tests.proofs.Kept.{open_ends}
+use Rattle.line.proofs.Kept.{open_ends}
 use Rattle.line_tests.proofs.session.OpeningEnds.end.Goals as goal
 
 pub returns : goal.returns

@@ -1,5 +1,5 @@
 use Rattle.std.proofs.Common.{false, Ok, Err}
-use Rattle.line_tests.proofs.Kept.{seal_ends}
+use Rattle.line.proofs.Kept.{seal_ends}
 use Rattle.line_tests.proofs.session.SealingEnds.end.Goals as goal
 
 pub returns-in-Ok : goal.returns-in-Ok

@@ -1,6 +1,6 @@
 use Rattle.std.proofs.Common.{◌≡◌, true, sym, ap, ◌∙◌, subst}
-use Rattle.line_tests.specs.Holds.{holds}
-use Rattle.line_tests.proofs.Kept.{begin_holds, begin_idle, refused_holds}
+use Rattle.line.specs.Holds.{holds}
+use Rattle.line.proofs.Kept.{begin_holds, begin_idle, refused_holds}
 use Rattle.line_tests.proofs.session.Session.begin.Goals as goal
 
 pub invariant_of-self : goal.invariant_of-self

@@ -1,4 +1,4 @@
-use Rattle.line_tests.proofs.Kept.{put_holds}
+use Rattle.line.proofs.Kept.{put_holds}
 use Rattle.line_tests.proofs.session.Session.put.Goals as goal
 
 pub invariant_of-self : goal.invariant_of-self
