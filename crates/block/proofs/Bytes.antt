@@ -1,9 +1,9 @@
 -- Blocks and their bytes turn into each other without loss. Assumes nothing.
-use Rattle.std.proofs.Common.{◌≡◌, ℕ, suc, ◌+◌, ◌-◌, ◌*◌, ◌/◌, ◌%◌, ◌^◌, ◌<◌, ◌≤◌, List, [], ◌∷◌, ◌++◌, length, get_or, sym, refl, ap, ◌∙◌, subst, arith, lit<, length-append}
+use Rattle.std.proofs.Common.{◌≡◌, ℕ, suc, ◌+◌, ◌*◌, ◌/◌, ◌%◌, ◌^◌, ◌<◌, List, [], ◌∷◌, ◌++◌, length, get_or, sym, refl, ap, ◌∙◌, subst, arith, lit<, length-append}
 use Rattle.std.proofs.lemmas.Nat.{shr-shr, shr_high}
 use Rattle.std.proofs.lemmas.List.{nil_from_length}
 use Rattle.std.specs.List.{flat_map}
-use Rattle.block.specs.Block.{IsBlock, AllBytes, AllBlocks, number_after, number, bytes_of, blocks_of}
+use Rattle.block.specs.Block.{IsBlock, AllBytes, AllBlocks, number, bytes_of, blocks_of}
 
 pub number-bytes : (b : ℕ) → IsBlock b → number (bytes_of b) ≡ b
 unfolding bytes_of

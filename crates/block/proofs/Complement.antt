@@ -1,7 +1,7 @@
 -- The complement by subtraction, and of bytes. Assumes nothing.
-use Rattle.std.proofs.Common.{◌≡◌, ℕ, ◌+◌, ◌-◌, ◌*◌, ◌/◌, ◌%◌, ◌^◌, ◌<◌, ◌≤◌, List, [], ◌∷◌, ◌++◌, map, sym, refl, ap, ◌∙◌, arith}
-use lib.Bits.{bit_xor, bit_and, xor_add_and, and_mask, xor_lt, xor_assoc}
-use Rattle.block.specs.Block.{IsBlock, AllBytes, bytes_of, flip, flip_byte}
+use Rattle.std.proofs.Common.{◌≡◌, ℕ, ◌+◌, ◌-◌, ◌/◌, ◌%◌, ◌^◌, ◌<◌, [], ◌∷◌, map, sym, arith}
+use lib.Bits.{bit_xor, xor_add_and, and_mask, xor_assoc}
+use Rattle.block.specs.Block.{IsBlock, bytes_of, flip, flip_byte}
 use Rattle.block.proofs.Xor.{xor_twice, xor_swap}
 
 -- flipping all of k bits is taking away from all ones

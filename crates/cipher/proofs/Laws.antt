@@ -1,5 +1,5 @@
 -- The inverse and two ciphers in turn are sound, and a cipher before its inverse cancels. Assumes nothing.
-use mathlib.Core.Path.{◌≡◌, ap, sym, ◌∙◌}
+use mathlib.Core.Path.{ap, sym, ◌∙◌}
 use Rattle.cipher.specs.Meaning.{Meaning, Sound, Same, inverse, in_turn}
 
 pub sound-inverse : (c : Meaning) → Sound c → Sound (inverse c)

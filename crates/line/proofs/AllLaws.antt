@@ -1,13 +1,13 @@
 -- Every line keeps the laws over lists of calls. Assumes nothing.
-use Rattle.std.proofs.Common.{◌≡◌, ℕ, Bool, true, false, not, sym, refl, ap, ◌∙◌}
+use Rattle.std.proofs.Common.{◌≡◌, ℕ, Bool, false, not, ap, ◌∙◌}
 use lib.Bits.{bit_xor, xor_lt}
-use Rattle.block.specs.Block.{IsBlock, flip}
+use Rattle.block.specs.Block.{flip}
 use Rattle.block.proofs.Complement.{flip_right}
-use Rattle.cipher.specs.Meaning.{Meaning, Sound, Same, Complement, inverse, in_turn}
+use Rattle.cipher.specs.Meaning.{Meaning, Sound, Complement, inverse, in_turn}
 use Rattle.cipher.proofs.Laws as ciphers
 use Rattle.mode.specs.Steps.{Steps, Lawful}
 use Rattle.mode.specs.Modes.{Complemented, cbc_is, cfb_is, ofb_is}
-use Rattle.line.specs.Model.{step_of, params}
+use Rattle.line.specs.Model.{step_of}
 use Rattle.line.specs.Laws.{Laws}
 use Rattle.line.proofs.Through.{FlippedBy, closed, undoing}
 use Rattle.line.proofs.SameRuns.{equal_runs}

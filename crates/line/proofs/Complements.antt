@@ -1,48 +1,21 @@
 -- A sealing line over a complemented cipher, with complemented start values. Assumes nothing.
-use Rattle.std.proofs.Common.{◌≡◌, ℕ, ◌+◌, ◌*◌, ◌/◌, ◌%◌, ◌<◌, ◌≤◌, Bool, true, false, cond, not, eqb, ltb, List, [], ◌∷◌, ◌++◌, map, length, take, drop, is_some, Some, None, Ok, Err, Option, unwrap_or, sym, refl, ap, ◌∙◌, subst, arith, ltb-true, lt-ltb}
+use Rattle.std.proofs.Common.{◌≡◌, ℕ, ◌*◌, ◌/◌, ◌<◌, Bool, true, false, cond, ltb, List, [], ◌∷◌, ◌++◌, map, length, take, drop, is_some, Some, None, Option, sym, refl, ap, ◌∙◌, subst, arith, ltb-true, lt-ltb}
 use Rattle.std.specs.List.{flat_map}
 use Rattle.std.proofs.lemmas.List.{take_at, drop_at, length-map, map-append}
-use Rattle.block.specs.Block.{IsBlock, AllBytes, AllBlocks, number, bytes_of, blocks_of, flip, flip_byte}
+use Rattle.block.specs.Block.{IsBlock, AllBlocks, number, bytes_of, blocks_of, flip, flip_byte}
 use Rattle.block.proofs.Bytes.{length-bytes, length-flat, length-blocks, blocks_all}
 use Rattle.block.proofs.Complement.{bytes-flip}
 use Rattle.mode.specs.Pad.{padded}
 use Rattle.line.specs.declared.refusal.Refusal.{Refusal}
 use Rattle.line.specs.declared.state.State.{State}
 use Rattle.line.specs.declared.state.Last.{Last}
-use Rattle.line.specs.declared.state.Answer.{Answer}
-use Rattle.line.specs.declared.state.Answer.TheVariants.{Begun, Taken, Sealed, Opened, Abandoned}
 use Rattle.line.specs.declared.state.Event.TheVariants as event
-use Rattle.line.specs.Rules.{refusal, tail_of, register_of, next, answer, unless, outcome}
-use Rattle.line.specs.Model.{
-  Call,
-  Begin,
-  Put,
-  End,
-  Abandon,
-  input_of,
-  output_of,
-  Fit,
-  AllFit,
-  Params,
-  After,
-  after,
-  run,
-  fresh,
-  moved,
-  written,
-  overwritten,
-  with_register,
-  refusal_to,
-  outs,
-  last_register,
-  sealed_last,
-  last_of,
-  last_bytes,
-}
-use Rattle.line.specs.Laws.{writes, wrote, flip_start, Complements, AllComplement, ComplementRuns}
+use Rattle.line.specs.Rules.{refusal}
+use Rattle.line.specs.Model.{Call, Begin, Put, End, Abandon, output_of, Fit, AllFit, Params, After, after, run, fresh, written, overwritten, with_register, refusal_to, outs, last_register, sealed_last, last_of, last_bytes}
+use Rattle.line.specs.Laws.{flip_start, Complements, AllComplement, ComplementRuns}
 use Rattle.line.proofs.Through.{Step, Closed, FlippedBy, outs_blocks, length-outs, outs_flipped, last_flipped}
 use Rattle.line.proofs.SameRuns.{tail_block, after_block}
-use Rattle.line.proofs.Causes.{put_facts, end_facts, EndFacts, done, after_done, denied, after_denied}
+use Rattle.line.proofs.Causes.{put_facts, end_facts, done, after_done, denied, after_denied}
 use Rattle.line.proofs.RoundTrips.{idle}
 
 flat-flip : (bs : List ℕ) → AllBlocks bs → flat_map bytes_of (map flip bs) ≡ map flip_byte (flat_map bytes_of bs)

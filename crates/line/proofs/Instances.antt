@@ -1,13 +1,12 @@
 -- The examples of the complement law. Assumes nothing.
-use Rattle.std.proofs.Common.{◌≡◌, ℕ, false, List, [], ◌∷◌, get_or, replicate, sym, refl, ap, ◌∙◌, arith, lit<}
-use lib.Bits.{bit_xor, xor_lt}
+use Rattle.std.proofs.Common.{◌≡◌, ℕ, List, [], ◌∷◌, get_or, replicate, ap, arith, lit<}
+use lib.Bits.{xor_lt}
 use Rattle.block.specs.Block.{IsBlock, flip, flip_byte, bytes_of, blocks_of}
 use Rattle.block.proofs.Xor.{xor_twice}
 use Rattle.block.proofs.Complement.{flip_left}
 use Rattle.cipher.specs.Meaning.{Sound}
-use Rattle.mode.specs.Modes.{ctr}
-use Rattle.line.specs.Model.{Call, Begin, Put, params, after, run, outs, last_register, written}
-use Rattle.line.specs.Laws.{Complements, mixing, ComplementExamples}
+use Rattle.line.specs.Model.{Call, Begin, Put, after, run, outs, last_register, written}
+use Rattle.line.specs.Laws.{mixing, ComplementExamples}
 
 sound-mixing : (a : ℕ) → IsBlock a → Sound (mixing a)
 sound-mixing a h = record {

@@ -1,5 +1,5 @@
 -- What the calls of a line do to the slip that is kept beside it. Assumes nothing.
-use Rattle.std.proofs.Common.{◌≡◌, ℕ, ◌+◌, Bool, true, false, not, eqb, List, is_some, Some, None, Ok, Err, Option, Result, sym, refl, ap, ◌∙◌, subst, arith, eq-eqb}
+use Rattle.std.proofs.Common.{◌≡◌, ℕ, ◌+◌, Bool, true, false, not, eqb, List, is_some, Some, None, Ok, Err, Option, Result, sym, refl, ap, ◌∙◌, arith, eq-eqb}
 use Rattle.cipher.specs.Meaning.{Meaning}
 use Rattle.mode.specs.Steps.{Steps}
 use Rattle.line.specs.declared.Line.{Line}
@@ -7,7 +7,6 @@ use Rattle.line.specs.declared.refusal.Refusal.{Refusal}
 use Rattle.line.specs.declared.refusal.Refusal.TheVariants.{AlreadyRunning, NothingRuns, ForeignSlip}
 use Rattle.line.specs.declared.slip.Slip.{Slip}
 use Rattle.line.specs.declared.slip.Returned.{Returned}
-use Rattle.line.specs.declared.state.State.{State}
 use Rattle.line.specs.declared.state.Answer.{Answer}
 use Rattle.line.specs.declared.state.Answer.TheVariants.{Begun, Taken, Sealed, Opened, Abandoned}
 use Rattle.line.specs.Rules.{cause, both, answer, outcome, unless}

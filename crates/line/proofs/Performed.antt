@@ -1,5 +1,5 @@
 -- A call does what the model says. Assumes nothing.
-use Rattle.std.proofs.Common.{◌≡◌, ℕ, ◌/◌, ◌≤◌, Bool, true, false, not, eqb, ltb, List, [], ◌∷◌, ◌++◌, length, is_some, Some, None, Ok, Err, Option, Result, sym, refl, ap, ◌∙◌, subst, arith, ltb-false}
+use Rattle.std.proofs.Common.{◌≡◌, ℕ, ◌/◌, ◌≤◌, Bool, true, false, not, eqb, ltb, List, length, is_some, Some, None, Ok, Err, Option, Result, sym, refl, ap, ◌∙◌, subst, arith, ltb-false}
 use Rattle.line.specs.declared.refusal.Refusal.{Refusal}
 use Rattle.line.specs.declared.state.State.{State}
 use Rattle.line.specs.declared.state.Answer.{Answer}
@@ -14,7 +14,7 @@ use Rattle.line.specs.declared.state.Event.TheVariants as event
 use Rattle.line.specs.Rules.{Bounded, cause, both, refusal, answer, opened_tail, next, outcome, unless}
 use Rattle.std.specs.List.{flat_map}
 use Rattle.block.specs.Block.{bytes_of, blocks_of}
-use Rattle.line.specs.Model.{Call, Params, After, after, moved, written, overwritten, output_of, refusal_to, event_of, outs, last_register, with_register, params, last_of, last_bytes}
+use Rattle.line.specs.Model.{Call, Params, after, moved, written, overwritten, output_of, refusal_to, event_of, outs, last_register, with_register, params, last_of, last_bytes}
 use Rattle.line.specs.Model.Call.{Begin, Put, End, Abandon}
 
 pub performed : (p : Params) (s : State) (c : Call) (s' : State) (a : Result Answer Refusal) (o : List ℕ)

@@ -1,5 +1,5 @@
 -- A line of the other kind takes back what a line wrote. Assumes nothing.
-use Rattle.std.proofs.Common.{◌≡◌, ℕ, ◌+◌, ◌*◌, ◌/◌, ◌%◌, ◌<◌, ◌≤◌, Bool, true, false, cond, not, eqb, ltb, List, [], ◌∷◌, ◌++◌, length, take, drop, is_some, Some, None, Ok, Err, Option, Result, unwrap_or, sym, refl, ap, ◌∙◌, subst, arith, ltb-true, lt-ltb, eqb-true}
+use Rattle.std.proofs.Common.{◌≡◌, ℕ, ◌+◌, ◌*◌, ◌/◌, ◌%◌, ◌<◌, ◌≤◌, Bool, true, false, cond, not, eqb, ltb, List, [], ◌∷◌, length, take, drop, is_some, Some, None, Ok, Err, Result, unwrap_or, sym, refl, ap, ◌∙◌, subst, arith, ltb-true, lt-ltb, eqb-true}
 use Rattle.std.specs.List.{flat_map}
 use Rattle.std.proofs.lemmas.List.{take_at, length-take-le}
 use Rattle.block.specs.Block.{IsBlock, AllBytes, number, bytes_of, blocks_of}
@@ -10,41 +10,14 @@ use Rattle.line.specs.declared.refusal.Refusal.{Refusal}
 use Rattle.line.specs.declared.state.State.{State}
 use Rattle.line.specs.declared.state.Last.{Last}
 use Rattle.line.specs.declared.state.Answer.{Answer}
-use Rattle.line.specs.declared.state.Answer.TheVariants.{Begun, Taken, Sealed, Opened, Abandoned}
+use Rattle.line.specs.declared.state.Answer.TheVariants.{Taken, Sealed, Opened}
 use Rattle.line.specs.declared.state.Event.TheVariants as event
-use Rattle.line.specs.Rules.{both, tail_of, register_of, next, answer}
-use Rattle.line.specs.Model.{
-  Call,
-  Begin,
-  Put,
-  End,
-  Abandon,
-  input_of,
-  output_of,
-  Fit,
-  AllFit,
-  Params,
-  After,
-  after,
-  run,
-  left,
-  fresh,
-  moved,
-  written,
-  overwritten,
-  with_register,
-  refusal_to,
-  outs,
-  last_register,
-  sealed_last,
-  opened_last,
-  last_of,
-  last_bytes,
-}
+use Rattle.line.specs.Rules.{tail_of, register_of, next}
+use Rattle.line.specs.Model.{Call, Begin, Put, End, Abandon, Fit, AllFit, Params, After, after, run, left, fresh, moved, written, overwritten, with_register, refusal_to, outs, last_register, sealed_last, opened_last, last_of, last_bytes}
 use Rattle.line.specs.Laws.{writes, wrote, ByAnswer, slip_after, Paired, HandsOn, counterpart, Restores, RoundTrip}
 use Rattle.line.proofs.Through.{Step, Closed, UndoneBy, outs_blocks, length-outs, outs_undone, last_undone}
 use Rattle.line.proofs.SameRuns.{tail_block, after_block}
-use Rattle.line.proofs.Causes.{PutFacts, put_facts, put_allowed, EndFacts, end_facts, end_allowed, AbandonFacts, abandon_facts, abandon_allowed, done, after_done, accepted_by, refused_stays}
+use Rattle.line.proofs.Causes.{put_facts, put_allowed, end_facts, end_allowed, abandon_facts, abandon_allowed, done, after_done, accepted_by, refused_stays}
 
 -- what a call wrote is what stands at the front
 front : (w old : List ℕ) (n : ℕ) → length w ≡ n → take n (overwritten w old) ≡ w

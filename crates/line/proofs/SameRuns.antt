@@ -1,42 +1,15 @@
 -- Lines over ciphers that mean the same run alike. Assumes nothing.
-use Rattle.std.proofs.Common.{◌≡◌, ℕ, ◌<◌, ◌≤◌, Bool, true, false, cond, eqb, ltb, List, [], ◌∷◌, ◌++◌, length, replicate, Some, None, Option, sym, refl, ap, ◌∙◌, subst, arith, ltb-true, eqb-true}
+use Rattle.std.proofs.Common.{◌≡◌, ℕ, ◌<◌, Bool, true, false, cond, eqb, ltb, List, [], ◌∷◌, length, Some, None, Option, refl, ap, ◌∙◌, arith, ltb-true, eqb-true}
 use Rattle.block.specs.Block.{IsBlock, AllBytes, number, blocks_of}
-use Rattle.block.proofs.Bytes.{eight, all_append, blocks_all, number_fits}
+use Rattle.block.proofs.Bytes.{blocks_all, number_fits}
 use Rattle.cipher.specs.Meaning.{Meaning, Sound, Same}
 use Rattle.mode.specs.Steps.{Steps, Lawful}
 use Rattle.mode.specs.Pad.{padded}
 use Rattle.mode.proofs.Padded.{length-padded, padded_bytes}
 use Rattle.line.specs.declared.refusal.Refusal.{Refusal}
 use Rattle.line.specs.declared.state.State.{State}
-use Rattle.line.specs.declared.state.Last.{Last}
 use Rattle.line.specs.Rules.{unless, register_of}
-use Rattle.line.specs.Model.{
-  Call,
-  Begin,
-  Put,
-  End,
-  Abandon,
-  Fit,
-  AllFit,
-  Params,
-  step_of,
-  params,
-  After,
-  after,
-  run,
-  left,
-  fresh,
-  moved,
-  written,
-  refusal_to,
-  outs,
-  last_register,
-  sealed_last,
-  opened_last,
-  sealed_last_of,
-  opened_last_of,
-  last_of,
-}
+use Rattle.line.specs.Model.{Call, Begin, Put, End, Abandon, Fit, AllFit, Params, step_of, params, after, run, fresh, moved, written, refusal_to, sealed_last, opened_last, last_of}
 use Rattle.line.specs.Laws.{EqualRuns}
 use Rattle.line.proofs.Through.{Step, Closed, AgreeOn, outs_same, last_same, last_block, closed, agreeing}
 

@@ -1,8 +1,6 @@
 -- Lists of blocks through a step. Assumes nothing.
-use Rattle.std.proofs.Common.{◌≡◌, ℕ, suc, ◌+◌, ◌*◌, ◌/◌, ◌%◌, ◌<◌, ◌≤◌, Bool, true, false, not, List, [], ◌∷◌, ◌++◌, map, length, sym, refl, ap, ◌∙◌, subst, arith}
-use Rattle.std.specs.List.{flat_map}
-use Rattle.block.specs.Block.{IsBlock, AllBytes, AllBlocks, bytes_of, blocks_of, flip, flip_byte}
-use Rattle.block.proofs.Bytes.{length-flat, length-blocks}
+use Rattle.std.proofs.Common.{◌≡◌, ℕ, suc, Bool, true, false, not, List, [], ◌∷◌, map, length, sym, refl, ap, ◌∙◌}
+use Rattle.block.specs.Block.{IsBlock, AllBlocks, flip}
 use Rattle.cipher.specs.Meaning.{Meaning, Sound, Same}
 use Rattle.mode.specs.Steps.{Steps, Agree, Lawful}
 use Rattle.line.specs.Model.{step_of, outs, last_register}

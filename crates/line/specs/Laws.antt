@@ -1,5 +1,5 @@
 -- Laws over lists of calls: what two lines just made have to do with each other, whatever is called on them.
-use Rattle.std.specs.Prelude.{◌≡◌, ℕ, ◌*◌, ◌≤◌, Bool, true, false, not, List, [], ◌∷◌, ◌++◌, map, length, take, drop, Ok, Err, Result, bit_xor}
+use Rattle.std.specs.Prelude.{◌≡◌, ℕ, ◌*◌, ◌≤◌, Bool, false, not, List, [], ◌∷◌, ◌++◌, map, length, take, drop, Ok, Err, Result, bit_xor}
 use Rattle.block.specs.Block.{IsBlock, flip, flip_byte}
 use Rattle.cipher.specs.Meaning.{Meaning, Sound, Same, Complement, inverse, in_turn}
 use Rattle.mode.specs.Steps.{Steps}

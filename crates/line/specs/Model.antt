@@ -12,7 +12,7 @@ use Rattle.line.specs.declared.state.Last.{Last}
 use Rattle.line.specs.declared.state.Event.{Event}
 use Rattle.line.specs.declared.state.Event.TheVariants as event
 use Rattle.line.specs.declared.state.Answer.{Answer}
-use Rattle.line.specs.Rules.{refusal, answer, next, outcome, unless, tail_of}
+use Rattle.line.specs.Rules.{refusal, answer, next, outcome, unless}
 
 -- A call with its arguments: a slip by its two numbers, a buffer by the bytes that it holds when handed in.
 pub data Call : Type 0 where

@@ -1,4 +1,4 @@
-// The lookup tables, in the layout of ISO/IEC 18033-3:2010, 4.3.4.6: sixteen entries to a row.
+// The lookup tables S7 and S9 of ISO/IEC 18033-3:2010, 4.3.4.6, in the order of the standard's rows.
 ghost use Rattle.std.specs.Prelude.{◌≡◌, ◌^◌, ◌<◌, ◌≤◌, MatchOption};
 ghost use Rattle.misty1.specs.Tables.{S7, S9};
 ghost use Rattle.misty1.specs.Forms.{S7Stands, S9Stands};

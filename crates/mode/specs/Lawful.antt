@@ -1,11 +1,11 @@
 -- The five modes owe nothing more. Assumes nothing.
 use Rattle.std.specs.Prelude.{◌≡◌, ℕ, ◌+◌, ◌%◌, ◌^◌, bit_xor, refl}
-use Rattle.std.proofs.Common.{sym, ap, ◌∙◌, arith}
+use Rattle.std.proofs.Common.{ap, ◌∙◌, arith}
 use Rattle.std.proofs.lemmas.Nat.{xor_lt}
 use Rattle.block.specs.Block.{IsBlock}
 use Rattle.block.proofs.Xor.{xor_twice}
 use Rattle.cipher.specs.Meaning.{Meaning, Sound}
-use Rattle.mode.specs.Steps.{Step, Steps, Agree, StepLawful, Undoes, Lawful}
+use Rattle.mode.specs.Steps.{Step, Agree, StepLawful, Undoes, Lawful}
 use Rattle.mode.specs.Modes.{cbc, cfb, ofb, ctr}
 
 xor_block : (a b : ℕ) → IsBlock a → IsBlock b → IsBlock (bit_xor a b)

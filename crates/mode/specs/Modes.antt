@@ -1,6 +1,5 @@
 -- The five modes. P is plain, C is sealed, R is the register.
-use Rattle.std.specs.Prelude.{ℕ, ◌+◌, ◌%◌, ◌^◌, bit_xor}
-use Rattle.cipher.specs.Meaning.{Meaning}
+use Rattle.std.specs.Prelude.{◌+◌, ◌%◌, ◌^◌, bit_xor}
 use Rattle.mode.specs.Steps.{Steps}
 
 -- Electronic codebook: C = E(P), and R stays.

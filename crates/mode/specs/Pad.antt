@@ -1,5 +1,5 @@
 -- The pad: byte 80 and then zero bytes to the end of the block (padding method 2 of ISO/IEC 9797-1).
-use Rattle.std.specs.Prelude.{ℕ, zero, suc, ◌-◌, Bool, true, false, cond, List, ◌∷◌, ◌++◌, length, replicate, Some, None, Option, ◌==◌, nat_lt, slice_index}
+use Rattle.std.specs.Prelude.{ℕ, zero, suc, ◌-◌, cond, List, ◌∷◌, ◌++◌, length, replicate, Some, None, Option, ◌==◌, nat_lt, slice_index}
 
 -- A tail of at most seven bytes with its pad: eight bytes.
 abbrev pub padded : List ℕ → List ℕ

@@ -25,6 +25,6 @@ module _ {A B : Type 0} where
     pub pairs_rest_all : r ≡ None → zips fronts fronts s r t → pairs_rest s ≡ []
     pairs_rest_all e h =
         elim (either_empty_from_Zip s t r e h) [
-          inl none ↦ ap (λ l. zip l (iter_rest (zip_second s))) none
+          | inl none ↦ ap (λ l. zip l (iter_rest (zip_second s))) none
           | inr none ↦ ap (zip (iter_rest (zip_first s))) none ∙ zip-nil (iter_rest (zip_first s))
         ]

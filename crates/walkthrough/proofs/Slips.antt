@@ -1,5 +1,5 @@
 -- What a refused end leaves of a slip, and whose slip an accepted one took. Assumes nothing.
-use Rattle.std.proofs.Common.{◌≡◌, Bool, true, false, eqb, is_some, Some, Ok, refl, sym, ap, ◌∙◌}
+use Rattle.std.proofs.Common.{◌≡◌, Bool, true, false, is_some, Some, Ok, refl, sym, ap, ◌∙◌}
 use Rattle.std.proofs.lemmas.Bool.{eqb-true}
 use Rattle.line.specs.declared.Line.{Line}
 use Rattle.line.specs.declared.slip.Slip.{Slip}

@@ -1,4 +1,4 @@
-use Rattle.std.proofs.Common.{◌≡◌, length, sym, ap, ◌∙◌, arith, rules}
+use Rattle.std.proofs.Common.{◌≡◌, length, ap, arith, rules}
 use Rattle.block.specs.Block.{number}
 use Rattle.block.proofs.Bytes.{eight}
 use Rattle.block.proofs.from_bytes.Goals as goal

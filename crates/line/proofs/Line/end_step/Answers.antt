@@ -1,4 +1,4 @@
-use Rattle.std.proofs.Common.{◌≡◌, length, Ok, Err, sym, ◌∙◌}
+use Rattle.std.proofs.Common.{length, Ok, Err, sym, ◌∙◌}
 use Rattle.line.specs.Model.{Call, params}
 use Rattle.line.proofs.Blocks.{tail_fits}
 use Rattle.line.proofs.Performed.{performs, end_taken, end_refused, end_room}

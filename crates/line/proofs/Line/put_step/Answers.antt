@@ -1,4 +1,4 @@
-use Rattle.std.proofs.Common.{◌≡◌, Ok, Err, sym, ◌∙◌, subst}
+use Rattle.std.proofs.Common.{Ok, Err, sym, ◌∙◌}
 use Rattle.line.specs.Model.{Call, params, with_register}
 use Rattle.line.proofs.Performed.{performs, refused, put_taken}
 use Rattle.line.proofs.Line.put_step.Goals as goal

@@ -1,4 +1,4 @@
-use Rattle.std.proofs.Common.{◌≡◌, ◌≤◌, length}
+use Rattle.std.proofs.Common.{◌≡◌}
 use Rattle.line.specs.Performs.{params_of}
 use Rattle.line.proofs.Replays.{Sofar}
 use Rattle.line.proofs.replay.perform_all.Given as goal

@@ -1,5 +1,5 @@
-use Rattle.std.proofs.Common.{◌≡◌, Bool, sym, ◌∙◌, subst, rules}
-use Rattle.line.specs.Model.{last_of, step_of}
+use Rattle.std.proofs.Common.{rules}
+use Rattle.line.specs.Model.{last_of}
 use Rattle.line.proofs.step.last_block.Goals as goal
 
 pub returns-then-opens : goal.returns-then-opens

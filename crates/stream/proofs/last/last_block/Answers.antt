@@ -1,5 +1,5 @@
-use Rattle.std.proofs.Common.{◌≡◌, Bool, sym, ◌∙◌, subst, rules}
-use Rattle.stream.specs.Stream.{last_of, step_of}
+use Rattle.std.proofs.Common.{rules}
+use Rattle.stream.specs.Stream.{last_of}
 use Rattle.stream.proofs.last.last_block.Goals as goal
 
 pub returns-then-opens : goal.returns-then-opens

@@ -1,4 +1,4 @@
-use Rattle.std.proofs.Common.{Ok, Err, ap, sym, ◌∙◌, Some}
+use Rattle.std.proofs.Common.{Ok, Err, ap, ◌∙◌, Some}
 use Rattle.line.specs.Holds.{holds}
 use Rattle.line.proofs.Kept.{begin_holds, seal_ends}
 use Rattle.walkthrough.proofs.Slips.{refused_end_holds, one_line}

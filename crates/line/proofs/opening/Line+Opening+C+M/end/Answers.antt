@@ -1,4 +1,4 @@
-use Rattle.std.proofs.Common.{◌≡◌, true, Ok, sym, refl, ap, subst}
+use Rattle.std.proofs.Common.{true, Ok, sym, refl, subst}
 use Rattle.line.specs.declared.state.Answer.TheVariants.{Opened}
 use Rattle.line.specs.Model.Call.{End}
 use Rattle.line.specs.Performs.{Performs}

@@ -1,4 +1,4 @@
-use Rattle.std.proofs.Common.{◌≡◌, true, sym, ap, ◌∙◌, subst}
+use Rattle.std.proofs.Common.{sym, ap, ◌∙◌}
 use Rattle.line.specs.Holds.{holds}
 use Rattle.line.proofs.Kept.{begin_holds, begin_idle, refused_holds}
 use Rattle.line_tests.proofs.session.Session.begin.Goals as goal
