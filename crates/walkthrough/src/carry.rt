@@ -1,6 +1,7 @@
 // The pay file through a line: sealed by one, opened by another.
-ghost use Rattle.std.specs.Prelude.{◌≡◌, ◌≤◌, true, take, Some, IfOk};
+ghost use Rattle.std.specs.Prelude.{◌≡◌, ◌≤◌, true, take, Some, IfOk, IfErr};
 ghost use Rattle.line.specs.Holds.{holds};
+ghost use Rattle.walkthrough.specs.Unspent.{HasNoSlip};
 
 use crate::pay::{BODY, FILE, NUMBER, START};
 use crate::trouble::{Trouble, give_up};
@@ -50,12 +51,13 @@ impl Last {
     }
 }
 
-/// Begins a file and puts its whole blocks. The slip is that of the running file.
+/// Begins a file and puts its whole blocks.
 fn begin<K: Kind, M: Mode>(
     line: &mut Line<K, Misty1, M>,
     input: &[u8],
 ) -> Result<(Slip, Body), Trouble>
-    ensures { IfOk result (λ begun. holds line.new (Some begun.0) ≡ true) }
+    ensures slip { IfOk result (λ begun. holds line.new (Some begun.0) ≡ true) }
+    ensures err { IfErr result HasNoSlip }
 {
     let mut bytes = [0; 40];
     let slip = line.begin(START)?;
@@ -76,7 +78,9 @@ fn begin<K: Kind, M: Mode>(
 }
 
 /// Seals the pay file.
-pub(crate) fn seal<M: Mode>(line: &mut Line<Sealing, Misty1, M>) -> Result<(Body, Last), Trouble> {
+pub(crate) fn seal<M: Mode>(line: &mut Line<Sealing, Misty1, M>) -> Result<(Body, Last), Trouble>
+    ensures { IfErr result HasNoSlip }
+{
     let mut bytes = [0; 8];
     let file = FILE;
     let (slip, body) = begin(line, &file[0..BODY])?;
@@ -98,7 +102,9 @@ pub(crate) fn seal<M: Mode>(line: &mut Line<Sealing, Misty1, M>) -> Result<(Body
 pub(crate) fn open<M: Mode>(
     line: &mut Line<Opening, Misty1, M>,
     sealed: &(Body, Last),
-) -> Result<(Body, Last), Trouble> {
+) -> Result<(Body, Last), Trouble>
+    ensures { IfErr result HasNoSlip }
+{
     let mut bytes = [0; 8];
     let (slip, body) = begin(line, &sealed.0.bytes)?;
     match line.end(slip, sealed.1.bytes(), &mut bytes) {
@@ -116,7 +122,9 @@ pub(crate) fn open<M: Mode>(
 }
 
 /// Seals the pay file on a line just made, and opens what came out on another.
-pub(crate) fn carry<M: Mode + Copy>(cipher: Misty1, mode: M) -> Result<Carried, Trouble> {
+pub(crate) fn carry<M: Mode + Copy>(cipher: Misty1, mode: M) -> Result<Carried, Trouble>
+    ensures { IfErr result HasNoSlip }
+{
     let sealed = seal(&mut Line::new(Sealing, cipher, mode, NUMBER))?;
     let opened = open(&mut Line::new(Opening, cipher, mode, NUMBER), &sealed)?;
     Ok(Carried { sealed, opened })

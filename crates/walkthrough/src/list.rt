@@ -1,7 +1,8 @@
 // A list of calls on a sealing line, and the list that undoes it on an opening line.
-ghost use Rattle.std.specs.Prelude.{◌≡◌, take, drop, IfOk};
+ghost use Rattle.std.specs.Prelude.{◌≡◌, take, drop, IfOk, IfErr};
 ghost use Rattle.std.specs.List.{zip};
 ghost use Rattle.walkthrough.specs.Second.{wrote, handed_on as call_handed_on, second_calls as calls_handed_on, bytes_written as bytes_written_by, bytes_taken as bytes_taken_by};
+ghost use Rattle.walkthrough.specs.Unspent.{HasNoSlip};
 
 use crate::carry::{same_bytes, same_state};
 use crate::pay::{NUMBER, START};
@@ -193,7 +194,9 @@ fn tell(
 }
 
 /// A list of calls on a sealing line, some of them refused, and the list that follows from it on an opening line.
-pub(crate) fn lists(rt: &HostRuntime, cipher: Misty1) -> Result<(), Trouble> {
+pub(crate) fn lists(rt: &HostRuntime, cipher: Misty1) -> Result<(), Trouble>
+    ensures { IfErr result HasNoSlip }
+{
     let heap = rt.alloc();
     let (calls, inputs) = (CALLS, INPUTS);
     let (mut outputs, mut replies) = ([UNTOUCHED; 64], [Err(Refusal::NothingRuns); 10]);
@@ -227,7 +230,9 @@ fn opening(
     sealed: &[u8],
     plain: &[u8],
     first: State,
-) -> Result<(), Trouble> {
+) -> Result<(), Trouble>
+    ensures { IfErr result HasNoSlip }
+{
     let (mut outputs, mut replies) = ([UNTOUCHED; 64], [Err(Refusal::NothingRuns); 10]);
     let left = replay(
         Opening,

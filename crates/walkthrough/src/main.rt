@@ -1,6 +1,9 @@
 // A pay file carried through the lines of the library from beginning to end, with a note for each step.
 #![tactic(auto)]
 
+ghost use Rattle.std.specs.Prelude.{IfErr};
+ghost use Rattle.walkthrough.specs.Unspent.{HasNoSlip};
+
 mod carry;
 mod list;
 mod pay;
@@ -20,7 +23,9 @@ use std::process::ExitCode;
 use trouble::Trouble;
 
 /// The pay file in all the modes.
-fn modes(rt: &HostRuntime, cipher: Misty1) -> Result<(), Trouble> {
+fn modes(rt: &HostRuntime, cipher: Misty1) -> Result<(), Trouble>
+    ensures { IfErr result HasNoSlip }
+{
     println!(rt;
         "\n2. Through both lines in the mode cbc, call by call\n\n\
         cbc: each block is combined with the sealed block before it, and then enciphered.\n\
@@ -51,7 +56,9 @@ fn modes(rt: &HostRuntime, cipher: Misty1) -> Result<(), Trouble> {
 }
 
 /// All the notes.
-fn walk(rt: &HostRuntime) -> Result<(), Trouble> {
+fn walk(rt: &HostRuntime) -> Result<(), Trouble>
+    ensures { IfErr result HasNoSlip }
+{
     let cipher = Misty1::new(&KEY)?;
     tell::heading(rt)?;
     modes(rt, cipher)?;
@@ -65,6 +72,7 @@ fn main(rt: HostRuntime) -> ExitCode {
         Err(trouble) => {
             let why = trouble.text();
             let _ = eprintln!(rt; "walkthrough: {why}");
+            trouble.let_go();
             ExitCode::FAILURE
         }
     }

@@ -1,12 +1,13 @@
 // Calls that are refused.
-ghost use Rattle.std.specs.Prelude.{◌≡◌, ◌≢◌, true, Some, IfOk};
+ghost use Rattle.std.specs.Prelude.{◌≡◌, ◌≢◌, true, Some, IfOk, IfErr};
 ghost use Rattle.line.specs.Holds.{holds};
 ghost use Rattle.line.specs.declared.slip.Slip.{Slip};
+ghost use Rattle.walkthrough.specs.Unspent.{HasNoSlip};
 
 use crate::carry::{same_state, seal};
 use crate::pay::{FILE, KEY, NUMBER, START};
 use crate::text::word;
-use crate::trouble::{Trouble, abandon, give_up};
+use crate::trouble::{Trouble, give_up};
 use line::Line;
 use line::kind::{Kind, Opening, Sealing};
 use line::slip::{Returned, Slip};
@@ -62,15 +63,16 @@ fn put(line: &mut Line<Sealing, Misty1, Cbc>, input: &[u8]) -> Attempt
 
 /// Begins, puts 9 bytes and begins again: the last two are refused.
 fn while_running(line: &mut Line<Sealing, Misty1, Cbc>) -> Result<(Slip, [Attempt; 2]), Trouble>
-    ensures slip { IfOk result (λ r. holds line.new (Some r.0) ≡ true) }
+    ensures slip { IfOk result (λ begun. holds line.new (Some begun.0) ≡ true) }
     ensures number { line.new.number ≡ line.old.number }
+    ensures err { IfErr result HasNoSlip }
 {
     let file = FILE;
     let slip = line.begin(START)?;
     let odd = put(line, &file[0..9]);
     let before = line.state();
     match line.begin(START) {
-        Ok(_) => unreachable!(),
+        Ok(second) => Err(Trouble::BegunTwice(slip, second)),
         Err(refusal) => {
             let again = Attempt::new(Some(refusal.number()), before, line);
             Ok((slip, [odd, again]))
@@ -84,8 +86,7 @@ fn foreign_slip(
     own: Slip,
     other: &mut Line<Sealing, Misty1, Cbc>,
 ) -> Result<Attempt, Trouble>
-    requires own { holds line.old (Some own) ≡ true }
-    requires other { line.old.number ≢ other.old.number }
+    ensures { holds line.old (Some own) ≡ true → line.old.number ≢ other.old.number → IfErr result HasNoSlip }
 {
     let mut output = [0; 8];
     let before = line.state();
@@ -94,18 +95,25 @@ fn foreign_slip(
         Err(refusal) => return Err(give_up(line, own, refusal)),
     };
     match line.end(foreign, b"58\n", &mut output) {
-        Ok(_) => unreachable!(),
+        Ok(_) => match line.abandon(own) {
+            Ok(_) => Ok(Attempt::new(None, before, line)),
+            Err(back) => Err(Trouble::Unspent(back)),
+        },
         Err(Returned { slip, refusal }) => {
             let attempt = Attempt::new(Some(refusal.number()), before, line);
-            abandon(other, slip);
-            abandon(line, own);
-            Ok(attempt)
+            match (other.abandon(slip), line.abandon(own)) {
+                (Ok(_), Ok(_)) => Ok(attempt),
+                (Err(back), Ok(_)) | (Ok(_), Err(back)) => Err(Trouble::Unspent(back)),
+                (Err(first), Err(second)) => Err(Trouble::BothUnspent(first, second)),
+            }
         }
     }
 }
 
 /// Ends an opening line's file with a block that has no pad, which is refused, and then abandons the file.
-fn no_pad(line: &mut Line<Opening, Misty1, Cbc>, block: &[u8]) -> Result<Attempt, Trouble> {
+fn no_pad(line: &mut Line<Opening, Misty1, Cbc>, block: &[u8]) -> Result<Attempt, Trouble>
+    ensures { IfErr result HasNoSlip }
+{
     let mut output = [0; 8];
     let slip = line.begin(START)?;
     let before = line.state();
@@ -113,14 +121,18 @@ fn no_pad(line: &mut Line<Opening, Misty1, Cbc>, block: &[u8]) -> Result<Attempt
         Ok(_) => Ok(Attempt::new(None, before, line)),
         Err(Returned { slip, refusal }) => {
             let attempt = Attempt::new(Some(refusal.number()), before, line);
-            abandon(line, slip);
-            Ok(attempt)
+            match line.abandon(slip) {
+                Ok(_) => Ok(attempt),
+                Err(back) => Err(Trouble::Unspent(back)),
+            }
         }
     }
 }
 
 /// The refusals of a sealing line.
-fn sealing(rt: &HostRuntime, cipher: Misty1) -> Result<(), Trouble> {
+fn sealing(rt: &HostRuntime, cipher: Misty1) -> Result<(), Trouble>
+    ensures { IfErr result HasNoSlip }
+{
     let bytes = FILE;
     let mut line = Line::new(Sealing, cipher, Cbc, NUMBER);
     let idle = put(&mut line, &bytes[0..8]);
@@ -141,7 +153,9 @@ fn sealing(rt: &HostRuntime, cipher: Misty1) -> Result<(), Trouble> {
 }
 
 /// The refusal of an opening line.
-fn opening(rt: &HostRuntime, cipher: Misty1) -> Result<(), Trouble> {
+fn opening(rt: &HostRuntime, cipher: Misty1) -> Result<(), Trouble>
+    ensures { IfErr result HasNoSlip }
+{
     let (body, _) = seal(&mut Line::new(Sealing, cipher, Cbc, NUMBER))?;
     let attempt = no_pad(
         &mut Line::new(Opening, cipher, Cbc, NUMBER),
@@ -170,7 +184,9 @@ fn short_key(rt: &HostRuntime) -> io::Result<()> {
 }
 
 /// Calls that are refused, and what they leave.
-pub(crate) fn refusals(rt: &HostRuntime, cipher: Misty1) -> Result<(), Trouble> {
+pub(crate) fn refusals(rt: &HostRuntime, cipher: Misty1) -> Result<(), Trouble>
+    ensures { IfErr result HasNoSlip }
+{
     println!(rt;
         "\n4. Calls that are refused\n\nA refused call answers a number and changes nothing.\n"
     )?;

@@ -1,4 +1,7 @@
 // The notes on the pay file and on its way through both lines.
+ghost use Rattle.std.specs.Prelude.{IfErr};
+ghost use Rattle.walkthrough.specs.Unspent.{HasNoSlip};
+
 use crate::carry::{Body, Carried, carry};
 use crate::pay::{BODY, FILE, KEY, NUMBER, START};
 use crate::text::{Blocks, Counts, Hex, Text, word};
@@ -108,7 +111,9 @@ pub(crate) fn in_full<M: Mode + Copy>(
     rt: &HostRuntime,
     cipher: Misty1,
     mode: M,
-) -> Result<(), Trouble> {
+) -> Result<(), Trouble>
+    ensures { IfErr result HasNoSlip }
+{
     let carried = carry(cipher, mode)?;
     sealing(rt, &carried)?;
     opening(rt, &carried)?;
@@ -123,7 +128,9 @@ pub(crate) fn in_short<M: Mode + Copy>(
     cipher: Misty1,
     name: &str,
     mode: M,
-) -> Result<(), Trouble> {
+) -> Result<(), Trouble>
+    ensures { IfErr result HasNoSlip }
+{
     let carried = carry(cipher, mode)?;
     println!(rt; "\n{name}")?;
     summary(rt, &carried)?;
