@@ -99,7 +99,7 @@ module _ (p : Params) (start : State) (rs : List Request) (inputs outputs : List
       let x : ℕ = input_size (get_or rs k d) in
       let y : ℕ = output_size (get_or rs k d) in
       let (hx, hy, more) = fits_here rs k d (length inputs - read) (length outputs - wrote) here h.bytes in
-      let in-room : k < length reps = omega (arith, h.reps_long) in
+      let in_room : k < length reps = omega (arith, h.reps_long) in
       let within : wrote + y ≤ length outs = omega (arith, h.outs_long, h.writes) in
       let c : Call = call_of (get_or rs k d) (take x (drop read inputs)) (take y (drop wrote outs)) in
       let later : List Call = rest (k + 1) (read + x) (wrote + y) in
@@ -115,7 +115,7 @@ module _ (p : Params) (start : State) (rs : List Request) (inputs outputs : List
         reps_long = length-set reps k a ∙ h.reps_long;
         state = sym (ap (λ z. left p z.state later) did) ∙ sym (ap (left p s) split) ∙ h.state;
         reply =
-            ap (λ l. l ++ answers (run p s' later)) (take_more_set reps k a in-room)
+            ap (λ l. l ++ answers (run p s' later)) (take_more_set reps k a in_room)
             ∙ append_assoc (take k reps) (a ∷ []) (answers (run p s' later))
             ∙ ap (λ (z : After). take k reps ++ (z.answer ∷ answers (run p z.state later))) (sym did)
             ∙ ap (λ l. take k reps ++ answers (run p s l)) (sym split)
@@ -164,14 +164,14 @@ module _ (p : Params) (start : State) (rs : List Request) (inputs outputs : List
       (subst (λ w. Sofar (k + 1) (read + input_size (get_or rs k d)) w s' (put_mid wrote m outs o) (set reps k a)) (sym ew)
       (subst (λ y. Sofar (k + 1) (read + input_size (get_or rs k d)) (wrote + output_size (get_or rs k d)) s' (put_mid wrote y outs o) (set reps k a)) (sym em) done))
 
-  pub record All-done (s : State) (outs : List ℕ) (reps : List (Result Answer Refusal)) : Type 0 where
+  pub record AllDone (s : State) (outs : List ℕ) (reps : List (Result Answer Refusal)) : Type 0 where
     pub state : s ≡ left p start (calls rs inputs outputs)
     pub out : outs ≡ overwritten (out_bytes (run p start (calls rs inputs outputs))) outputs
     pub reply : reps ≡ overwritten (answers (run p start (calls rs inputs outputs))) replies
     pub fit : AllFit (calls rs inputs outputs)
 
   pub all_done : (k read wrote : ℕ) (s : State) (outs : List ℕ) (reps : List (Result Answer Refusal))
-      → length rs ≤ k → k ≤ length replies → Sofar k read wrote s outs reps → All-done s outs reps
+      → length rs ≤ k → k ≤ length replies → Sofar k read wrote s outs reps → AllDone s outs reps
   unfolding calls run left
   all_done k read wrote s outs reps end room h =
       let none : rest k read wrote ≡ [] = at_drop_all (λ l. calls l (drop read inputs) (drop wrote outputs)) rs k end in

@@ -64,9 +64,9 @@ module _ (f g : Step) (closed : Closed f) (undone : UndoneBy f g) (r : ℕ) (hr 
       let hP : IsBlock P = closed.block r C hr hC in
       let T : List ℕ = take (unwrap_or (tail_length (bytes_of P)) 0) (bytes_of P) in
       let short : n < 8 = (tail_found (bytes_of P) 8 n e).0 in
-      let is-n : T ≡ take n (bytes_of P) = ap (λ o. take (unwrap_or o 0) (bytes_of P)) e in
-      let size : length T ≡ n = ap length is-n ∙ length-take-le n (bytes_of P) (omega (arith, length-bytes P)) in
-      let whole_again : padded T ≡ bytes_of P = ap padded is-n ∙ padded_tail (bytes_of P) n (length-bytes P) e in
+      let is_n : T ≡ take n (bytes_of P) = ap (λ o. take (unwrap_or o 0) (bytes_of P)) e in
+      let size : length T ≡ n = ap length is_n ∙ length-take-le n (bytes_of P) (omega (arith, length-bytes P)) in
+      let whole_again : padded T ≡ bytes_of P = ap padded is_n ∙ padded_tail (bytes_of P) n (length-bytes P) e in
       let out : ℕ × ℕ = g r (number (padded T)) in
       let back : out ≡ (C, (f r C).1) = ap (λ x. g r (number x)) whole_again ∙ ap (g r) (number-bytes P hP) ∙ undone r C hr hC in
       record {
@@ -86,17 +86,17 @@ module _ (f g : Step) (closed : Closed f) (undone : UndoneBy f g) (r : ℕ) (hr 
       go : (b : Bool) → ltb (length input) 8 ≡ b → Mirrored false l n
       go true e =
           let same : Some (sealed_last (length input) (f r (number (padded input)))) ≡ Some l = rw e at is in
-          let l-is : sealed_last (length input) (f r (number (padded input))) ≡ l = cc in
-          let size : Some (length input) ≡ Some n = ap (λ x. x.tail) l-is ∙ tail in
-          subst (λ x. Mirrored false x n) l-is (mirrored_sealed n (ltb-true _ _ e) (cc))
+          let l_is : sealed_last (length input) (f r (number (padded input))) ≡ l = cc in
+          let size : Some (length input) ≡ Some n = ap (λ x. x.tail) l_is ∙ tail in
+          subst (λ x. Mirrored false x n) l_is (mirrored_sealed n (ltb-true _ _ e) (cc))
       go false e = let bad : None ≡ Some l = rw e at is in absurd (let z : ◌≡◌ {A = ℕ} 0 1 = cc in omega arith)
   mirrored true l n is tail = go (eqb (length input) 8) refl
     where
       go : (b : Bool) → eqb (length input) 8 ≡ b → Mirrored true l n
       go true e =
           let same : Some (opened_last (f r (number input))) ≡ Some l = rw e at is in
-          let l-is : opened_last (f r (number input)) ≡ l = cc in
-          subst (λ x. Mirrored true x n) l-is (mirrored_opened n (eqb-true _ _ e) (ap (λ x. x.tail) l-is ∙ tail))
+          let l_is : opened_last (f r (number input)) ≡ l = cc in
+          subst (λ x. Mirrored true x n) l_is (mirrored_opened n (eqb-true _ _ e) (ap (λ x. x.tail) l_is ∙ tail))
       go false e = let bad : None ≡ Some l = rw e at is in absurd (let z : ◌≡◌ {A = ℕ} 0 1 = cc in omega arith)
 
 end_writes : (opens : Bool) (b t : ℕ) → writes (Ok (cond opens (Opened b t) (Sealed b))) ≡ cond opens t 8
@@ -124,7 +124,7 @@ module _ (opens : Bool) (f g : Step) (number : ℕ) (closed : Closed f) (undone 
   Own own s = is_some s.running ≡ true → own ≡ (number, s.files)
 
   -- the second line takes what the first one handed on, from the same state
-  record Taken_back (own : ℕ × ℕ) (s : State) (c d : Call) : Type 0 where
+  record TakenBack (own : ℕ × ℕ) (s : State) (c d : Call) : Type 0 where
     restores : Restores own c (done p s c) d (after q s d)
     state : (after q s d).state ≡ moved p s c
     slip : Own (slip_after own (after q s d).answer) (moved p s c)
@@ -132,7 +132,7 @@ module _ (opens : Bool) (f g : Step) (number : ℕ) (closed : Closed f) (undone 
   -- it is enough that the second line accepts the call
   taken_back : (own : ℕ × ℕ) (s : State) (c d : Call) → refusal_to q s d ≡ None
       → Restores own c (done p s c) d (done q s d) → moved q s d ≡ moved p s c → Own (slip_after own (done q s d).answer) (moved p s c)
-      → Taken_back own s c d
+      → TakenBack own s c d
   taken_back own s c d none restores state slip =
       let e = sym (after_done q s d none) in
       record {
@@ -141,13 +141,13 @@ module _ (opens : Bool) (f g : Step) (number : ℕ) (closed : Closed f) (undone 
         slip = subst (λ b. Own (slip_after own b.answer) (moved p s c)) e slip;
       }
 
-  begin_back : (own : ℕ × ℕ) (s : State) (start : ℕ) → refusal_to p s (Begin start) ≡ None → Taken_back own s (Begin start) (Begin start)
+  begin_back : (own : ℕ × ℕ) (s : State) (start : ℕ) → refusal_to p s (Begin start) ≡ None → TakenBack own s (Begin start) (Begin start)
   unfolding written Own
   begin_back own s start none = taken_back own s (Begin start) (Begin start) none (refl, refl) refl (λ _. refl)
 
   put_back : (own : ℕ × ℕ) (s : State) (input output room : List ℕ) → IsBlock s.register → AllBytes input → Own own s
       → refusal_to p s (Put input output) ≡ None → length (wrote (done p s (Put input output))) ≤ length room
-      → Taken_back own s (Put input output) (Put (wrote (done p s (Put input output))) room)
+      → TakenBack own s (Put input output) (Put (wrote (done p s (Put input output))) room)
   unfolding written Own
   put_back own s input output room hs hi slip none fits =
       let facts = put_facts number s (length input) (length output) none in
@@ -176,7 +176,7 @@ module _ (opens : Bool) (f g : Step) (number : ℕ) (closed : Closed f) (undone 
 
   end_back : (own : ℕ × ℕ) (s : State) (line file : ℕ) (input output room : List ℕ) → IsBlock s.register → AllBytes input → Own own s
       → refusal_to p s (End line file input output) ≡ None → 8 ≤ length room
-      → Taken_back own s (End line file input output) (End own.0 own.1 (wrote (done p s (End line file input output))) room)
+      → TakenBack own s (End line file input output) (End own.0 own.1 (wrote (done p s (End line file input output))) room)
   unfolding written Own
   end_back own s line file input output room hs hi slip none fits =
       let facts = end_facts number s line file (last_of opens f s.register input) (length output) none in
@@ -216,7 +216,7 @@ module _ (opens : Bool) (f g : Step) (number : ℕ) (closed : Closed f) (undone 
       (λ e. idle e)
 
   abandon_back : (own : ℕ × ℕ) (s : State) (line file : ℕ) → Own own s → refusal_to p s (Abandon line file) ≡ None
-      → Taken_back own s (Abandon line file) (Abandon own.0 own.1)
+      → TakenBack own s (Abandon line file) (Abandon own.0 own.1)
   unfolding written Own
   abandon_back own s line file slip none =
       let facts = abandon_facts number s line file none in
@@ -227,13 +227,13 @@ module _ (opens : Bool) (f g : Step) (number : ℕ) (closed : Closed f) (undone 
 
   -- each call that the first line accepted
   call_back : (own : ℕ × ℕ) (s : State) (c d : Call) (b : After) → IsBlock s.register → Fit c → Own own s → refusal_to p s c ≡ None
-      → HandsOn own c (done p s c) d b → Taken_back own s c d
-  call_back own s (Begin start) d b hs hc slip none h = subst (Taken_back own s (Begin start)) (sym h) (begin_back own s start none)
+      → HandsOn own c (done p s c) d b → TakenBack own s c d
+  call_back own s (Begin start) d b hs hc slip none h = subst (TakenBack own s (Begin start)) (sym h) (begin_back own s start none)
   call_back own s (Put input output) d b hs hc slip none (room, is, fits) =
-      subst (Taken_back own s (Put input output)) (sym is) (put_back own s input output room hs hc slip none fits)
+      subst (TakenBack own s (Put input output)) (sym is) (put_back own s input output room hs hc slip none fits)
   call_back own s (End line file input output) d b hs hc slip none (room, is, fits) =
-      subst (Taken_back own s (End line file input output)) (sym is) (end_back own s line file input output room hs hc slip none fits)
-  call_back own s (Abandon line file) d b hs hc slip none h = subst (Taken_back own s (Abandon line file)) (sym h) (abandon_back own s line file slip none)
+      subst (TakenBack own s (End line file input output)) (sym is) (end_back own s line file input output room hs hc slip none fits)
+  call_back own s (Abandon line file) d b hs hc slip none h = subst (TakenBack own s (Abandon line file)) (sym h) (abandon_back own s line file slip none)
 
   -- both lists, from the same state
   abbrev Goal : ℕ × ℕ → State → List Call → List Call → Type 0

@@ -52,7 +52,7 @@ impl Ends for Opening {
     }
 }
 
-/// A line under test. It keeps the slip, so that a test can stop at any check: a running file is abandoned as the session is dropped.
+/// A line under test. It keeps the slip, so that a test can return at any place: a running file is abandoned as the session is dropped.
 pub struct Session<K: Ends + Drop, M: Mode + Drop> {
     line: Line<K, Misty1, M>,
     slip: Option<Slip>,

@@ -13,8 +13,8 @@ use mode::Mode;
 use std::alloc::AllocError;
 use std::io;
 
-/// Why the walkthrough stops early. A slip cannot be dropped, so one that no line took would stand in here. There is none: every
-/// function here is proved to fail with another error.
+/// Why the walkthrough stops early. A slip cannot be dropped, so one that no line took would stand in here. There is none: `walk` is
+/// proved to fail with another error.
 pub enum Trouble {
     Output(io::Error),
     Memory(AllocError),
