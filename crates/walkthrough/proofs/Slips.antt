@@ -18,17 +18,16 @@ both_right false true e = refl
 both_right false false e = e
 
 module _ {K C M : Type 0} where
-  -- a refused end or abandon hands back a slip that is as good as before
+  -- after a refused end or abandon each slip is as good as before
+  pub refused_end_holds : (old new : Line K C M) (slip kept : Slip) (back : Returned)
+      → (back.slip ≡ slip) × (new.state ≡ old.state) × (new.number ≡ old.number) → holds old (Some kept) ≡ true → holds new (Some kept) ≡ true
+  refused_end_holds old new slip kept back e h =
+      same_holds old new (Some kept) (ap (λ s. is_some s.running) e.1) (ap (λ s. s.files) e.1) e.2 h
+
+  -- and so is the one that it hands back
   pub ended_holds : (old new : Line K C M) (slip : Slip) (back : Returned)
       → (back.slip ≡ slip) × (new.state ≡ old.state) × (new.number ≡ old.number) → holds old (Some slip) ≡ true → holds new (Some back.slip) ≡ true
-  ended_holds old new slip back e h =
-      ap (λ s. holds new (Some s)) e.0 ∙ same_holds old new (Some slip) (ap (λ s. is_some s.running) e.1) (ap (λ s. s.files) e.1) e.2 h
-
-  -- and any other slip too
-  pub refused_end_holds : (old new : Line K C M) (slip own : Slip) (back : Returned)
-      → (back.slip ≡ slip) × (new.state ≡ old.state) × (new.number ≡ old.number) → holds old (Some own) ≡ true → holds new (Some own) ≡ true
-  refused_end_holds old new slip own back e h =
-      same_holds old new (Some own) (ap (λ s. is_some s.running) e.1) (ap (λ s. s.files) e.1) e.2 h
+  ended_holds old new slip back e h = ap (λ s. holds new (Some s)) e.0 ∙ refused_end_holds old new slip slip back e h
 
   own_line : (l : Line K C M) (s : Slip) → own l s ≡ true → s.line ≡ l.number
   own_line l s h = eqb-true s.line l.number (both_left _ _ h)
