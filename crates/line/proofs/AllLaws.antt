@@ -7,9 +7,9 @@ use Rattle.cipher.specs.Meaning.{Meaning, Sound, Complement, inverse, in_turn}
 use Rattle.cipher.proofs.Laws as ciphers
 use Rattle.mode.specs.Steps.{Steps, Lawful}
 use Rattle.mode.specs.Modes.{Complemented, cbc_is, cfb_is, ofb_is}
-use Rattle.line.specs.Model.{step_of}
+use Rattle.stream.specs.Stream.{step_of}
 use Rattle.line.specs.Laws.{Laws}
-use Rattle.line.proofs.Through.{FlippedBy, closed, undoing}
+use Rattle.stream.proofs.Through.{FlippedBy, closed, undoing}
 use Rattle.line.proofs.SameRuns.{equal_runs}
 use Rattle.line.proofs.RoundTrips.{round_trips}
 use Rattle.line.proofs.Complements.{complement_runs}

@@ -6,16 +6,18 @@ use Rattle.block.specs.Block.{IsBlock, AllBlocks, number, bytes_of, blocks_of, f
 use Rattle.block.proofs.Bytes.{length-bytes, length-flat, length-blocks, blocks_all}
 use Rattle.block.proofs.Complement.{bytes-flip}
 use Rattle.mode.specs.Pad.{padded}
-use Rattle.line.specs.declared.refusal.Refusal.{Refusal}
-use Rattle.line.specs.declared.state.State.{State}
-use Rattle.line.specs.declared.state.Last.{Last}
-use Rattle.line.specs.declared.state.Event.TheVariants as event
-use Rattle.line.specs.Rules.{refusal}
-use Rattle.line.specs.Model.{Call, Begin, Put, End, Abandon, output_of, Fit, AllFit, Params, After, after, run, fresh, written, overwritten, with_register, refusal_to, outs, last_register, sealed_last, last_of, last_bytes}
+use Rattle.protocol.specs.declared.refusal.Refusal.{Refusal}
+use Rattle.protocol.specs.declared.state.State.{State}
+use Rattle.stream.specs.declared.last.Last.{Last}
+use Rattle.protocol.specs.declared.state.Event.TheVariants as event
+use Rattle.protocol.specs.Rules.{refusal, fresh, with_register}
+use Rattle.stream.specs.Stream.{overwritten, outs, last_register, sealed_last, last_of, last_bytes}
+use Rattle.line.specs.Model.{Call, Begin, Put, End, Abandon, output_of, Fit, AllFit, Params, After, after, run, written, refusal_to}
 use Rattle.line.specs.Laws.{flip_start, Complements, AllComplement, ComplementRuns}
-use Rattle.line.proofs.Through.{Step, Closed, FlippedBy, outs_blocks, length-outs, outs_flipped, last_flipped}
+use Rattle.stream.proofs.Through.{Step, Closed, FlippedBy, outs_blocks, length-outs, outs_flipped, last_flipped}
 use Rattle.line.proofs.SameRuns.{tail_block, after_block}
-use Rattle.line.proofs.Causes.{put_facts, end_facts, done, after_done, denied, after_denied}
+use Rattle.protocol.proofs.Causes.{put_facts, end_facts}
+use Rattle.line.proofs.Outcomes.{done, after_done, denied, after_denied}
 use Rattle.line.proofs.RoundTrips.{idle}
 
 flat-flip : (bs : List ℕ) → AllBlocks bs → flat_map bytes_of (map flip bs) ≡ map flip_byte (flat_map bytes_of bs)

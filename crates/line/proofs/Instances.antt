@@ -5,7 +5,8 @@ use Rattle.block.specs.Block.{IsBlock, flip, flip_byte, bytes_of, blocks_of}
 use Rattle.block.proofs.Xor.{xor_twice}
 use Rattle.block.proofs.Complement.{flip_left}
 use Rattle.cipher.specs.Meaning.{Sound}
-use Rattle.line.specs.Model.{Call, Begin, Put, after, run, outs, last_register, written}
+use Rattle.stream.specs.Stream.{outs, last_register}
+use Rattle.line.specs.Model.{Call, Begin, Put, after, run, written}
 use Rattle.line.specs.Laws.{mixing, ComplementExamples}
 
 sound-mixing : (a : ℕ) → IsBlock a → Sound (mixing a)

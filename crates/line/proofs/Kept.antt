@@ -3,13 +3,13 @@ use Rattle.std.proofs.Common.{◌≡◌, ℕ, ◌+◌, Bool, true, false, not, e
 use Rattle.cipher.specs.Meaning.{Meaning}
 use Rattle.mode.specs.Steps.{Steps}
 use Rattle.line.specs.declared.Line.{Line}
-use Rattle.line.specs.declared.refusal.Refusal.{Refusal}
-use Rattle.line.specs.declared.refusal.Refusal.TheVariants.{AlreadyRunning, NothingRuns, ForeignSlip}
+use Rattle.protocol.specs.declared.refusal.Refusal.{Refusal}
+use Rattle.protocol.specs.declared.refusal.Refusal.TheVariants.{AlreadyRunning, NothingRuns, ForeignSlip}
 use Rattle.line.specs.declared.slip.Slip.{Slip}
 use Rattle.line.specs.declared.slip.Returned.{Returned}
-use Rattle.line.specs.declared.state.Answer.{Answer}
-use Rattle.line.specs.declared.state.Answer.TheVariants.{Begun, Taken, Sealed, Opened, Abandoned}
-use Rattle.line.specs.Rules.{cause, both, answer, outcome, unless}
+use Rattle.protocol.specs.declared.state.Answer.{Answer}
+use Rattle.protocol.specs.declared.state.Answer.TheVariants.{Begun, Taken, Sealed, Opened, Abandoned}
+use Rattle.protocol.specs.Rules.{cause, both, answer, outcome, unless}
 use Rattle.line.specs.Model.{Call, after, moved, refusal_to, event_of}
 use Rattle.line.specs.Model.Call.{Begin, Put, End, Abandon}
 use Rattle.line.specs.Performs.{Performs, HandsBack, params_of, begun, taken, sealed, opened, abandoned}
@@ -17,7 +17,7 @@ use Rattle.line.specs.Holds.{own, holds, Ended, Refusable}
 
 -- a line holds the slips that another one with its number, files and running file holds
 pub same_holds : {K C M : Type 0} (old new : Line K C M) (s : Option Slip)
-    → is_some new.state.running ≡ is_some old.state.running → new.state.files ≡ old.state.files → new.number ≡ old.number
+    → is_some new.machine.state.running ≡ is_some old.machine.state.running → new.machine.state.files ≡ old.machine.state.files → new.number ≡ old.number
     → holds old s ≡ true → holds new s ≡ true
 same_holds old new None er ef en h = refl
 same_holds old new (Some s) er ef en h =
@@ -49,26 +49,26 @@ idle false b rest e h = let z : ◌≡◌ {A = ℕ} 0 1 = cc in omega arith
 module _ {K C M : Type 0} (opening : K → Bool) (steps : M → Steps) (meaning : C → Meaning) (old new : Line K C M) where
   -- where a call left the line, and what it answered
   state_is : (c : Call) (a : Result Answer Refusal) (o : List ℕ) → Performs opening steps meaning old c a o new
-      → new.state ≡ unless (refusal_to (params_of opening steps meaning old) old.state c) old.state (moved (params_of opening steps meaning old) old.state c)
+      → new.machine.state ≡ unless (refusal_to (params_of opening steps meaning old) old.machine.state c) old.machine.state (moved (params_of opening steps meaning old) old.machine.state c)
   unfolding after
   state_is c a o h = sym (ap (λ x. x.state) h.did)
 
   answer_is : (c : Call) (a : Result Answer Refusal) (o : List ℕ) → Performs opening steps meaning old c a o new
-      → outcome (refusal_to (params_of opening steps meaning old) old.state c) (answer old.number (opening old.kind) old.state (event_of (params_of opening steps meaning old) old.state c)) ≡ a
+      → outcome (refusal_to (params_of opening steps meaning old) old.machine.state c) (answer old.number (opening old.block_mode.kind) old.machine.state (event_of (params_of opening steps meaning old) old.machine.state c)) ≡ a
   unfolding after
   answer_is c a o h = ap (λ x. x.answer) h.did
 
-  refused_stays : (c : Call) (r : Refusal) (o : List ℕ) → Performs opening steps meaning old c (Err r) o new → new.state ≡ old.state
+  refused_stays : (c : Call) (r : Refusal) (o : List ℕ) → Performs opening steps meaning old c (Err r) o new → new.machine.state ≡ old.machine.state
   refused_stays c r o h = state_is c (Err r) o h ∙ stays _ _ r _ _ (answer_is c (Err r) o h)
 
   accepted : (c : Call) (a : Answer) (o : List ℕ) → Performs opening steps meaning old c (Ok a) o new
-      → refusal_to (params_of opening steps meaning old) old.state c ≡ None
+      → refusal_to (params_of opening steps meaning old) old.machine.state c ≡ None
   accepted c a o h = none_of _ _ a (answer_is c (Ok a) o h)
 
   accepted_state : (c : Call) (a : Answer) (o : List ℕ) → Performs opening steps meaning old c (Ok a) o new
-      → new.state ≡ moved (params_of opening steps meaning old) old.state c
+      → new.machine.state ≡ moved (params_of opening steps meaning old) old.machine.state c
   accepted_state c a o h =
-      state_is c (Ok a) o h ∙ ap (λ f. unless f old.state (moved (params_of opening steps meaning old) old.state c)) (accepted c a o h)
+      state_is c (Ok a) o h ∙ ap (λ f. unless f old.machine.state (moved (params_of opening steps meaning old) old.machine.state c)) (accepted c a o h)
 
   -- a refusal leaves the slip as good as it was
   pub refused_holds : (c : Call) (r : Refusal) (o : List ℕ) (s : Option Slip) → Performs opening steps meaning old c (Err r) o new
@@ -92,11 +92,11 @@ module _ {K C M : Type 0} (opening : K → Bool) (steps : M → Steps) (meaning 
       let a = Begun slip.line slip.file in
       let e = accepted_state (Begin start) a o h in
       let told = answer_is (Begin start) (Ok a) o h in
-      let same : Ok (Begun old.number (old.state.files + 1)) ≡ Ok a =
-      sym (ap (λ f. outcome f (Begun old.number (old.state.files + 1))) (accepted (Begin start) a o h)) ∙ told in
+      let same : Ok (Begun old.number (old.machine.state.files + 1)) ≡ Ok a =
+      sym (ap (λ f. outcome f (Begun old.number (old.machine.state.files + 1))) (accepted (Begin start) a o h)) ∙ told in
       let line : slip.line ≡ new.number = (let z : slip.line ≡ old.number = cc in z) ∙ sym h.number in
-      let file : slip.file ≡ new.state.files = (let z : slip.file ≡ old.state.files + 1 = cc in z) ∙ sym (ap (λ x. x.files) e) in
-      (λ i. both (is_some (e i).running) (both (eq-eqb slip.line new.number line i) (eq-eqb slip.file new.state.files file i)))
+      let file : slip.file ≡ new.machine.state.files = (let z : slip.file ≡ old.machine.state.files + 1 = cc in z) ∙ sym (ap (λ x. x.files) e) in
+      (λ i. both (is_some (e i).running) (both (eq-eqb slip.line new.number line i) (eq-eqb slip.file new.machine.state.files file i)))
 
   -- and there was none before
   pub begin_idle : (start : ℕ) (a : Answer) (o : List ℕ) (s : Slip) → Performs opening steps meaning old (Begin start) (Ok a) o new
@@ -108,29 +108,29 @@ module _ {K C M : Type 0} (opening : K → Bool) (steps : M → Steps) (meaning 
       → Performs opening steps meaning old (Abandon slip.line slip.file) (abandoned r) o new → Refusable old slip r
   abandon_refusable slip (Ok b) o h = tt
   abandon_refusable slip (Err back) o h = λ k.
-      let none = taken_with (is_some old.state.running) (own old slip) k in
-      let e : Ok (Abandoned old.state.blocks) ≡ Err back.refusal =
-      sym (ap (λ f. outcome f (Abandoned old.state.blocks)) none) ∙ answer_is (Abandon slip.line slip.file) (Err back.refusal) o h in
+      let none = taken_with (is_some old.machine.state.running) (own old slip) k in
+      let e : Ok (Abandoned old.machine.state.blocks) ≡ Err back.refusal =
+      sym (ap (λ f. outcome f (Abandoned old.machine.state.blocks)) none) ∙ answer_is (Abandon slip.line slip.file) (Err back.refusal) o h in
       let z : ◌≡◌ {A = ℕ} 0 1 = cc in omega arith
 
   handed : (c : Call) (slip : Slip) (back : Returned) (o : List ℕ) → Performs opening steps meaning old c (Err back.refusal) o new
-      → back.slip ≡ slip → (back.slip ≡ slip) × (new.state ≡ old.state) × (new.number ≡ old.number)
+      → back.slip ≡ slip → (back.slip ≡ slip) × (new.machine.state ≡ old.machine.state) × (new.number ≡ old.number)
   handed c slip back o h e = (e, refused_stays c back.refusal o h, h.number)
 
   pub abandon_ends : (slip : Slip) (r : Result ℕ Returned) (o : List ℕ)
       → Performs opening steps meaning old (Abandon slip.line slip.file) (abandoned r) o new → HandsBack slip r → Ended old slip new r
   abandon_ends slip (Ok b) o h e =
-      slip_own (is_some old.state.running) (own old slip) _ (accepted (Abandon slip.line slip.file) (Abandoned b) o h)
+      slip_own (is_some old.machine.state.running) (own old slip) _ (accepted (Abandon slip.line slip.file) (Abandoned b) o h)
   abandon_ends slip (Err back) o h e = handed (Abandon slip.line slip.file) slip back o h e
 
   pub seal_ends : (slip : Slip) (input output : List ℕ) (r : Result ℕ Returned) (o : List ℕ)
       → Performs opening steps meaning old (End slip.line slip.file input output) (sealed r) o new → HandsBack slip r → Ended old slip new r
   seal_ends slip input output (Ok b) o h e =
-      slip_own (is_some old.state.running) (own old slip) _ (accepted (End slip.line slip.file input output) (Sealed b) o h)
+      slip_own (is_some old.machine.state.running) (own old slip) _ (accepted (End slip.line slip.file input output) (Sealed b) o h)
   seal_ends slip input output (Err back) o h e = handed (End slip.line slip.file input output) slip back o h e
 
   pub open_ends : (slip : Slip) (input output : List ℕ) (r : Result (ℕ × ℕ) Returned) (o : List ℕ)
       → Performs opening steps meaning old (End slip.line slip.file input output) (opened r) o new → HandsBack slip r → Ended old slip new r
   open_ends slip input output (Ok b) o h e =
-      slip_own (is_some old.state.running) (own old slip) _ (accepted (End slip.line slip.file input output) (Opened b.0 b.1) o h)
+      slip_own (is_some old.machine.state.running) (own old slip) _ (accepted (End slip.line slip.file input output) (Opened b.0 b.1) o h)
   open_ends slip input output (Err back) o h e = handed (End slip.line slip.file input output) slip back o h e

@@ -1,8 +1,6 @@
-pub mod Blocks
 pub mod Performed
-pub mod Through
 pub mod SameRuns
-pub mod Causes
+pub mod Outcomes
 pub mod RoundTrips
 pub mod Complements
 pub mod Instances

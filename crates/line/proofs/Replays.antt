@@ -4,12 +4,13 @@ use borrow.Author.Tests.{lt-leb}
 use borrow.Rule.Slice.PartMut.{put_mid}
 use Rattle.std.proofs.lemmas.List.{append-nil, append_assoc, at_drop_more, at_drop_all, drop-drop, drop-set-lt, length-append, length-set, length-take-le, take_more_set}
 use Rattle.std.proofs.lemmas.Slice.{take-put_mid, drop-put_mid}
-use Rattle.line.specs.declared.refusal.Refusal.{Refusal}
-use Rattle.line.specs.declared.state.State.{State}
-use Rattle.line.specs.declared.state.Answer.{Answer}
-use Rattle.line.specs.Model.{Call, Fit, AllFit, Params, After, after, run, left, overwritten}
+use Rattle.protocol.specs.declared.refusal.Refusal.{Refusal}
+use Rattle.protocol.specs.declared.state.State.{State}
+use Rattle.protocol.specs.declared.state.Answer.{Answer}
+use Rattle.stream.specs.Stream.{overwritten}
+use Rattle.line.specs.Model.{Call, Fit, AllFit, Params, After, after, run, left}
 use Rattle.line.specs.declared.request.Request.{Request}
-use Rattle.line.specs.Rules.{both}
+use Rattle.protocol.specs.Rules.{both}
 use Rattle.line.specs.Replay.{input_size, output_size, call_of, calls, bytes_fit, answers, out_bytes}
 
 module _ (rs : List Request) (k : ℕ) (d : Request) (i o x y : ℕ) (here : k < length rs)

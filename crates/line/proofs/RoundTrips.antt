@@ -6,18 +6,20 @@ use Rattle.block.specs.Block.{IsBlock, AllBytes, number, bytes_of, blocks_of}
 use Rattle.block.proofs.Bytes.{number-bytes, length-bytes, length-flat, length-blocks, blocks_all, blocks-flat, flat-blocks, number_fits, bytes_of-number}
 use Rattle.mode.specs.Pad.{padded, tail_length}
 use Rattle.mode.proofs.Padded.{length-padded, padded_bytes, tail_padded, tail_found, padded_tail}
-use Rattle.line.specs.declared.refusal.Refusal.{Refusal}
-use Rattle.line.specs.declared.state.State.{State}
-use Rattle.line.specs.declared.state.Last.{Last}
-use Rattle.line.specs.declared.state.Answer.{Answer}
-use Rattle.line.specs.declared.state.Answer.TheVariants.{Taken, Sealed, Opened}
-use Rattle.line.specs.declared.state.Event.TheVariants as event
-use Rattle.line.specs.Rules.{tail_of, register_of, next}
-use Rattle.line.specs.Model.{Call, Begin, Put, End, Abandon, Fit, AllFit, Params, After, after, run, left, fresh, moved, written, overwritten, with_register, refusal_to, outs, last_register, sealed_last, opened_last, last_of, last_bytes}
+use Rattle.protocol.specs.declared.refusal.Refusal.{Refusal}
+use Rattle.protocol.specs.declared.state.State.{State}
+use Rattle.stream.specs.declared.last.Last.{Last}
+use Rattle.protocol.specs.declared.state.Answer.{Answer}
+use Rattle.protocol.specs.declared.state.Answer.TheVariants.{Taken, Sealed, Opened}
+use Rattle.protocol.specs.declared.state.Event.TheVariants as event
+use Rattle.stream.specs.Stream.{tail_of, register_of, overwritten, outs, last_register, sealed_last, opened_last, last_of, last_bytes}
+use Rattle.protocol.specs.Rules.{next, fresh, with_register}
+use Rattle.line.specs.Model.{Call, Begin, Put, End, Abandon, Fit, AllFit, Params, After, after, run, left, moved, written, refusal_to}
 use Rattle.line.specs.Laws.{writes, wrote, ByAnswer, slip_after, Paired, HandsOn, counterpart, Restores, RoundTrip}
-use Rattle.line.proofs.Through.{Step, Closed, UndoneBy, outs_blocks, length-outs, outs_undone, last_undone}
+use Rattle.stream.proofs.Through.{Step, Closed, UndoneBy, outs_blocks, length-outs, outs_undone, last_undone}
 use Rattle.line.proofs.SameRuns.{tail_block, after_block}
-use Rattle.line.proofs.Causes.{put_facts, put_allowed, end_facts, end_allowed, abandon_facts, abandon_allowed, done, after_done, accepted_by, refused_stays}
+use Rattle.protocol.proofs.Causes.{put_facts, put_allowed, end_facts, end_allowed, abandon_facts, abandon_allowed}
+use Rattle.line.proofs.Outcomes.{done, after_done, accepted_by, refused_stays}
 
 -- what a call wrote is what stands at the front
 front : (w old : List ℕ) (n : ℕ) → length w ≡ n → take n (overwritten w old) ≡ w

@@ -6,12 +6,13 @@ use Rattle.cipher.specs.Meaning.{Meaning, Sound, Same}
 use Rattle.mode.specs.Steps.{Steps, Lawful}
 use Rattle.mode.specs.Pad.{padded}
 use Rattle.mode.proofs.Padded.{length-padded, padded_bytes}
-use Rattle.line.specs.declared.refusal.Refusal.{Refusal}
-use Rattle.line.specs.declared.state.State.{State}
-use Rattle.line.specs.Rules.{unless, register_of}
-use Rattle.line.specs.Model.{Call, Begin, Put, End, Abandon, Fit, AllFit, Params, step_of, params, after, run, fresh, moved, written, refusal_to, sealed_last, opened_last, last_of}
+use Rattle.protocol.specs.declared.refusal.Refusal.{Refusal}
+use Rattle.protocol.specs.declared.state.State.{State}
+use Rattle.stream.specs.Stream.{register_of, step_of, sealed_last, opened_last, last_of}
+use Rattle.protocol.specs.Rules.{unless, fresh}
+use Rattle.line.specs.Model.{Call, Begin, Put, End, Abandon, Fit, AllFit, Params, params, after, run, moved, written, refusal_to}
 use Rattle.line.specs.Laws.{EqualRuns}
-use Rattle.line.proofs.Through.{Step, Closed, AgreeOn, outs_same, last_same, last_block, closed, agreeing}
+use Rattle.stream.proofs.Through.{Step, Closed, AgreeOn, outs_same, last_same, last_block, closed, agreeing}
 
 -- the block of a tail and its pad, and the last block of a sealed file
 pub tail_block : (tail : List ℕ) → AllBytes tail → length tail < 8 → IsBlock (number (padded tail))

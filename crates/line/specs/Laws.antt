@@ -4,10 +4,12 @@ use Rattle.block.specs.Block.{IsBlock, flip, flip_byte}
 use Rattle.cipher.specs.Meaning.{Meaning, Sound, Same, Complement, inverse, in_turn}
 use Rattle.mode.specs.Steps.{Steps}
 use Rattle.mode.specs.Modes.{Complemented, ctr}
-use Rattle.line.specs.declared.refusal.Refusal.{Refusal}
-use Rattle.line.specs.declared.state.Answer.{Answer}
-use Rattle.line.specs.declared.state.Answer.TheVariants.{Begun, Taken, Sealed, Opened, Abandoned}
-use Rattle.line.specs.Model.{Call, Begin, Put, End, Abandon, input_of, output_of, AllFit, Params, params, After, overwritten, run, left, fresh}
+use Rattle.protocol.specs.declared.refusal.Refusal.{Refusal}
+use Rattle.protocol.specs.declared.state.Answer.{Answer}
+use Rattle.protocol.specs.declared.state.Answer.TheVariants.{Begun, Taken, Sealed, Opened, Abandoned}
+use Rattle.stream.specs.Stream.{overwritten}
+use Rattle.protocol.specs.Rules.{fresh}
+use Rattle.line.specs.Model.{Call, Begin, Put, End, Abandon, input_of, output_of, AllFit, Params, params, After, run, left}
 
 -- How many bytes a call wrote at the front of its output: 8k of a put, the sealed block, or the tail alone.
 abbrev pub writes : Result Answer Refusal → ℕ

@@ -1,5 +1,6 @@
-pub mod Numbers
-pub mod Rules
+pub use Rattle.stream.specs.Stream
+pub use Rattle.protocol.specs.Numbers
+pub use Rattle.protocol.specs.Rules
 pub mod Model
 pub mod Performs
 pub mod Laws

@@ -3,32 +3,31 @@ use Rattle.std.specs.Prelude.{◌≡◌, ℕ, Bool, List, Ok, Err, Result}
 use Rattle.cipher.specs.Meaning.{Meaning}
 use Rattle.mode.specs.Steps.{Steps}
 use Rattle.line.specs.declared.Line.{Line}
-use Rattle.line.specs.declared.refusal.Refusal.{Refusal}
+use Rattle.protocol.specs.declared.refusal.Refusal.{Refusal}
 use Rattle.line.specs.declared.slip.Slip.{Slip}
 use Rattle.line.specs.declared.slip.Returned.{Returned}
-use Rattle.line.specs.declared.state.Answer.{Answer}
-use Rattle.line.specs.declared.state.Answer.TheVariants.{Begun, Taken, Sealed, Opened, Abandoned}
-use Rattle.line.specs.Model.{Call, Params, params, after, fresh}
+use Rattle.protocol.specs.declared.state.Answer.{Answer}
+use Rattle.protocol.specs.declared.state.Answer.TheVariants.{Begun, Taken, Sealed, Opened, Abandoned}
+use Rattle.protocol.specs.Rules.{fresh}
+use Rattle.line.specs.Model.{Call, Params, params, after}
 
 module _ {K C M : Type 0} (opening : K → Bool) (steps : M → Steps) (meaning : C → Meaning) where
   abbrev pub params_of : Line K C M → Params
-  params_of l = params (opening l.kind) (steps l.mode) (meaning l.cipher) l.number
+  params_of l = params (opening l.block_mode.kind) (steps l.block_mode.mode) (meaning l.block_mode.cipher) l.number
 
   -- The call answers, leaves the output and leaves the line as the model says; kind, cipher, mode and number stay.
   pub record Performs (old : Line K C M) (call : Call) (answer : Result Answer Refusal) (out : List ℕ) (new : Line K C M) : Type 0 where
-    pub did : after (params_of old) old.state call ≡ record { state = new.state; answer = answer; out = out }
-    pub kind : new.kind ≡ old.kind
-    pub cipher : new.cipher ≡ old.cipher
-    pub mode : new.mode ≡ old.mode
+    pub did : after (params_of old) old.machine.state call ≡ record { state = new.machine.state; answer = answer; out = out }
+    pub block_mode : new.block_mode ≡ old.block_mode
     pub number : new.number ≡ old.number
 
 -- A line just made holds what it was handed, and stands at the beginning.
 pub record Made {K C M : Type 0} (kind : K) (cipher : C) (mode : M) (number : ℕ) (l : Line K C M) : Type 0 where
-  pub kind_is : l.kind ≡ kind
-  pub cipher_is : l.cipher ≡ cipher
-  pub mode_is : l.mode ≡ mode
+  pub kind_is : l.block_mode.kind ≡ kind
+  pub cipher_is : l.block_mode.cipher ≡ cipher
+  pub mode_is : l.block_mode.mode ≡ mode
   pub number_is : l.number ≡ number
-  pub state_is : l.state ≡ fresh
+  pub state_is : l.machine.state ≡ fresh
 
 -- What each call's result says, as an answer or a refusal.
 abbrev pub begun : Result Slip Refusal → Result Answer Refusal

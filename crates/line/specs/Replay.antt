@@ -1,14 +1,15 @@
 -- A list of calls whose bytes lie one after another in two buffers, and what comes of performing it.
 use Rattle.std.specs.Prelude.{◌≡◌, ℕ, ◌-◌, Bool, true, cond, List, [], ◌∷◌, map, length, take, drop, Ok, Err, Result, nat_le}
 use Rattle.std.specs.List.{flat_map}
-use Rattle.line.specs.declared.refusal.Refusal.{Refusal}
+use Rattle.protocol.specs.declared.refusal.Refusal.{Refusal}
 use Rattle.line.specs.declared.request.Misfit.{Misfit}
 use Rattle.line.specs.declared.request.Request.{Request}
 use Rattle.line.specs.declared.request.Request.TheVariants as request
-use Rattle.line.specs.declared.state.State.{State}
-use Rattle.line.specs.declared.state.Answer.{Answer}
-use Rattle.line.specs.Rules.{both}
-use Rattle.line.specs.Model.{Call, Begin, Put, End, Abandon, AllFit, Params, After, run, left, fresh, overwritten}
+use Rattle.protocol.specs.declared.state.State.{State}
+use Rattle.protocol.specs.declared.state.Answer.{Answer}
+use Rattle.protocol.specs.Rules.{both, fresh}
+use Rattle.stream.specs.Stream.{overwritten}
+use Rattle.line.specs.Model.{Call, Begin, Put, End, Abandon, AllFit, Params, After, run, left}
 
 -- The bytes of input and of output that a call takes.
 abbrev pub input_size : Request → ℕ

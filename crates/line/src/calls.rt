@@ -8,9 +8,10 @@ use crate::Line;
 use crate::kind::Kind;
 use crate::refusal::Refusal;
 use crate::slip::{Returned, Slip};
-use crate::state::State;
 use cipher::Cipher;
 use mode::Mode;
+use protocol::machine::Machine;
+use stream::BlockMode;
 
 impl<K: Kind, C: Cipher, M: Mode> Line<K, C, M> {
     /// A line just made: idle, its register and all its counts 0. It keeps the laws over every list of calls.
@@ -18,19 +19,10 @@ impl<K: Kind, C: Cipher, M: Mode> Line<K, C, M> {
         ensures made { Made kind cipher mode number result }
         ensures laws { Laws (K.Kind.opening kind) (C.Cipher.meaning cipher) (M.Mode.steps mode) number }
     {
-        let state = State {
-            register: 0,
-            used: 0,
-            files: 0,
-            blocks: 0,
-            running: None,
-        };
         Line {
-            kind,
-            cipher,
-            mode,
+            block_mode: BlockMode::new(kind, cipher, mode),
             number,
-            state,
+            machine: Machine::new(),
         }
     }
 
@@ -38,23 +30,19 @@ impl<K: Kind, C: Cipher, M: Mode> Line<K, C, M> {
     pub fn begin(&mut self, start: u64) -> Result<Slip, Refusal>
         ensures { Performs K.Kind.opening M.Mode.steps C.Cipher.meaning self.old (Begin start) (begun result) [] self.new }
     {
-        match self.begin_step(start) {
-            Ok(_) => Ok(Slip {
-                line: self.number,
-                file: self.state.files,
-            }),
-            Err(refusal) => Err(refusal),
-        }
+        self.begin_step(start)?;
+        Ok(Slip {
+            line: self.number,
+            file: self.files(),
+        })
     }
 
     /// Takes whole blocks of the running file through the mode's step, to the front of `output`, and answers how many.
     pub fn put(&mut self, input: &[u8], output: &mut [u8]) -> Result<usize, Refusal>
         ensures { Performs K.Kind.opening M.Mode.steps C.Cipher.meaning self.old (Put input.now output.old) (taken result) output.new self.new }
     {
-        match self.put_step(input, output) {
-            Ok(_) => Ok(input.len() / 8),
-            Err(refusal) => Err(refusal),
-        }
+        self.put_step(input, output)?;
+        Ok(input.len() / 8)
     }
 
     /// Gives the running file up, and answers its blocks.
@@ -65,7 +53,7 @@ impl<K: Kind, C: Cipher, M: Mode> Line<K, C, M> {
         match self.abandon_step(slip.line, slip.file) {
             Ok(_) => {
                 slip.spend();
-                Ok(self.state.blocks)
+                Ok(self.blocks())
             }
             Err(refusal) => Err(Returned { slip, refusal }),
         }

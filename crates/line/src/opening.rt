@@ -23,7 +23,7 @@ impl<C: Cipher, M: Mode> Line<Opening, C, M> {
         match self.end_step(slip.line, slip.file, last, output) {
             Ok(answer) => {
                 slip.spend();
-                Ok((self.state.blocks, answer.tail()))
+                Ok((self.blocks(), answer.tail()))
             }
             Err(refusal) => Err(Returned { slip, refusal }),
         }

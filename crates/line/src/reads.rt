@@ -7,10 +7,9 @@ use crate::state::State;
 impl<K, C, M> Line<K, C, M> {
     /// Where the line stands.
     pub fn state(&self) -> State
-        ensures { result ≡ self.now.state }
+        ensures { result ≡ self.now.machine.state }
     {
-        let Line { state, .. } = self;
-        *state
+        self.machine.state()
     }
 
     /// The line's number.
@@ -22,36 +21,36 @@ impl<K, C, M> Line<K, C, M> {
 
     /// The register R.
     pub fn register(&self) -> u64
-        ensures { result ≡ self.now.state.register }
+        ensures { result ≡ self.now.machine.state.register }
     {
-        self.state.register
+        self.state().register
     }
 
     /// The used count U: blocks sealed or opened under the line's key.
     pub fn used(&self) -> u32
-        ensures { result ≡ self.now.state.used }
+        ensures { result ≡ self.now.machine.state.used }
     {
-        self.state.used
+        self.state().used
     }
 
     /// The files begun, F.
     pub fn files(&self) -> u16
-        ensures { result ≡ self.now.state.files }
+        ensures { result ≡ self.now.machine.state.files }
     {
-        self.state.files
+        self.state().files
     }
 
     /// The blocks B of this file.
     pub fn blocks(&self) -> u32
-        ensures { result ≡ self.now.state.blocks }
+        ensures { result ≡ self.now.machine.state.blocks }
     {
-        self.state.blocks
+        self.state().blocks
     }
 
     /// Whether a file runs.
     pub fn is_running(&self) -> bool
-        ensures { result ≡ is_some self.now.state.running }
+        ensures { result ≡ is_some self.now.machine.state.running }
     {
-        self.state.running.is_some()
+        self.state().running.is_some()
     }
 }

@@ -1,7 +1,8 @@
 // A whole list of calls performed on one line.
 ghost use Rattle.std.specs.Prelude.{◌≡◌, ◌≤◌, true, length};
 ghost use Rattle.line.specs.Laws.{Laws};
-ghost use Rattle.line.specs.Model.{AllFit, overwritten, params, run, left};
+ghost use Rattle.stream.specs.Stream.{overwritten};
+ghost use Rattle.line.specs.Model.{AllFit, params, run, left};
 ghost use Rattle.line.specs.Performs.{params_of};
 ghost use Rattle.line.specs.Replay.{bytes_fit as do_bytes_fit, calls, answers, out_bytes, Replayed};
 
@@ -41,9 +42,9 @@ fn perform_all<K: Kind, C: Cipher, M: Mode>(
 )
     requires bytes { do_bytes_fit requests.now (length inputs.now) (length outputs.old) ≡ true }
     requires room { length requests.now ≤ length replies.old }
-    ensures state { line.new.state ≡ left (params_of K.Kind.opening M.Mode.steps C.Cipher.meaning line.old) line.old.state (calls requests.now inputs.now outputs.old) }
-    ensures out { outputs.new ≡ overwritten (out_bytes (run (params_of K.Kind.opening M.Mode.steps C.Cipher.meaning line.old) line.old.state (calls requests.now inputs.now outputs.old))) outputs.old }
-    ensures reply { replies.new ≡ overwritten (answers (run (params_of K.Kind.opening M.Mode.steps C.Cipher.meaning line.old) line.old.state (calls requests.now inputs.now outputs.old))) replies.old }
+    ensures state { line.new.machine.state ≡ left (params_of K.Kind.opening M.Mode.steps C.Cipher.meaning line.old) line.old.machine.state (calls requests.now inputs.now outputs.old) }
+    ensures out { outputs.new ≡ overwritten (out_bytes (run (params_of K.Kind.opening M.Mode.steps C.Cipher.meaning line.old) line.old.machine.state (calls requests.now inputs.now outputs.old))) outputs.old }
+    ensures reply { replies.new ≡ overwritten (answers (run (params_of K.Kind.opening M.Mode.steps C.Cipher.meaning line.old) line.old.machine.state (calls requests.now inputs.now outputs.old))) replies.old }
     ensures fit { AllFit (calls requests.now inputs.now outputs.old) }
 {
     let mut read = 0;

@@ -19,7 +19,7 @@ impl<C: Cipher, M: Mode> Line<Sealing, C, M> {
         match self.end_step(slip.line, slip.file, tail, output) {
             Ok(_) => {
                 slip.spend();
-                Ok(self.state.blocks)
+                Ok(self.blocks())
             }
             Err(refusal) => Err(Returned { slip, refusal }),
         }

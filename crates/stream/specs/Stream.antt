@@ -6,11 +6,16 @@ use Rattle.cipher.specs.Meaning.{Meaning}
 use Rattle.mode.specs.Steps.{Steps}
 use Rattle.mode.specs.Pad.{padded, tail_length}
 use Rattle.stream.specs.declared.last.Last.{Last}
+use Rattle.stream.specs.declared.BlockMode.{BlockMode}
 
 -- The mode's step over the cipher, opening or sealing.
 abbrev pub step_of : Bool → Steps → Meaning → ℕ → ℕ → ℕ × ℕ
 step_of false mode cipher = mode.sealing cipher
 step_of true mode cipher = mode.opening cipher
+
+-- The step that blocks go through.
+abbrev pub step_through : {K C M : Type 0} → (K → Bool) → (M → Steps) → (C → Meaning) → BlockMode K C M → ℕ → ℕ → ℕ × ℕ
+step_through opening steps meaning b = step_of (opening b.kind) (steps b.mode) (meaning b.cipher)
 
 -- Blocks through a step, first to last: each takes the register that the one before it left.
 unfoldable pub outs : (ℕ → ℕ → ℕ × ℕ) → ℕ → List ℕ → List ℕ

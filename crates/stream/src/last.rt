@@ -1,6 +1,6 @@
 // The last block of a file: a tail and its pad on the way in, a padded block on the way out.
 ghost use Rattle.std.specs.Prelude.{◌≡◌};
-ghost use Rattle.stream.specs.Stream.{step_of, sealed_last_of, opened_last_of, last_of, last_bytes, fitting, overwritten};
+ghost use Rattle.stream.specs.Stream.{sealed_last_of, opened_last_of};
 
 use cipher::Cipher;
 use mode::{Mode, padding};
@@ -17,7 +17,12 @@ pub struct Last {
 }
 
 /// A tail and its pad, sealed; none where the tail is over 7 bytes.
-fn sealed_last<C: Cipher, M: Mode>(cipher: &C, mode: &M, register: u64, tail: &[u8]) -> Option<Last>
+pub(crate) fn sealed_last<C: Cipher, M: Mode>(
+    cipher: &C,
+    mode: &M,
+    register: u64,
+    tail: &[u8],
+) -> Option<Last>
     ensures { result ≡ sealed_last_of ((M.Mode.steps mode.now).sealing (C.Cipher.meaning cipher.now)) register tail.now }
 {
     let bytes = padding::pad(tail)?;
@@ -30,7 +35,12 @@ fn sealed_last<C: Cipher, M: Mode>(cipher: &C, mode: &M, register: u64, tail: &[
 }
 
 /// The last block, opened; none where it is not 8 bytes.
-fn opened_last<C: Cipher, M: Mode>(cipher: &C, mode: &M, register: u64, last: &[u8]) -> Option<Last>
+pub(crate) fn opened_last<C: Cipher, M: Mode>(
+    cipher: &C,
+    mode: &M,
+    register: u64,
+    last: &[u8],
+) -> Option<Last>
     ensures { result ≡ opened_last_of ((M.Mode.steps mode.now).opening (C.Cipher.meaning cipher.now)) register last.now }
 {
     let [b0, b1, b2, b3, b4, b5, b6, b7] = last else {
@@ -43,34 +53,4 @@ fn opened_last<C: Cipher, M: Mode>(cipher: &C, mode: &M, register: u64, last: &[
         register,
         tail: padding::tail_length(block::to_bytes(block)),
     })
-}
-
-/// A file's last block through the step; none where `input` is no tail, or no block.
-pub fn last_block<C: Cipher, M: Mode>(
-    opens: bool,
-    cipher: &C,
-    mode: &M,
-    register: u64,
-    input: &[u8],
-) -> Option<Last>
-    ensures { result ≡ last_of opens (step_of opens (M.Mode.steps mode.now) (C.Cipher.meaning cipher.now)) register input.now }
-{
-    if opens {
-        opened_last(cipher, mode, register, input)
-    } else {
-        sealed_last(cipher, mode, register, input)
-    }
-}
-
-/// Writes what the end of a file gives, the sealed block or the tail alone, as far as `output` has room for it.
-pub fn write_last(opens: bool, last: Option<Last>, output: &mut [u8])
-    ensures { output.new ≡ overwritten (fitting (last_bytes opens last) output.old) output.old }
-{
-    let Some(last) = last else {
-        return;
-    };
-    let bytes = block::to_bytes(last.block);
-    let size = if opens { last.tail.unwrap_or(0) } else { 8 };
-    let n = size.min(8).min(output.len());
-    output[0..n].copy_from_slice(&bytes[0..n]);
 }

@@ -1,9 +1,9 @@
 -- One turn of a loop over calls and their replies. Assumes nothing.
 use Rattle.std.proofs.Common.{◌≡◌, ℕ, List, [], ◌∷◌, ◌++◌, take, drop, Ok, Err, Result, sym, ap, ◌∙◌}
 use Rattle.std.proofs.lemmas.List.{append-nil, append_assoc}
-use Rattle.line.specs.declared.refusal.Refusal.{Refusal}
+use Rattle.protocol.specs.declared.refusal.Refusal.{Refusal}
 use Rattle.line.specs.declared.request.Request.{Request}
-use Rattle.line.specs.declared.state.Answer.{Answer}
+use Rattle.protocol.specs.declared.state.Answer.{Answer}
 use Rattle.line.specs.Replay.{input_size, output_size}
 use Rattle.walkthrough.specs.Second.{Replied, wrote, handed_on, second_calls, bytes_written, bytes_taken}
 

@@ -4,7 +4,7 @@ use Rattle.std.proofs.lemmas.Bool.{eqb-true}
 use Rattle.line.specs.declared.Line.{Line}
 use Rattle.line.specs.declared.slip.Slip.{Slip}
 use Rattle.line.specs.declared.slip.Returned.{Returned}
-use Rattle.line.specs.Rules.{both}
+use Rattle.protocol.specs.Rules.{both}
 use Rattle.line.specs.Holds.{own, holds, Ended}
 use Rattle.line.proofs.Kept.{same_holds}
 

@@ -1,10 +1,10 @@
 -- From a list of calls and the replies to it, the list for a line of the other kind.
 use Rattle.std.specs.Prelude.{ℕ, List, [], ◌∷◌, ◌++◌, take, drop, Ok, Err, Result}
-use Rattle.line.specs.declared.refusal.Refusal.{Refusal}
+use Rattle.protocol.specs.declared.refusal.Refusal.{Refusal}
 use Rattle.line.specs.declared.request.Request.{Request}
 use Rattle.line.specs.declared.request.Request.TheVariants.{Begin, Put, End, Abandon}
-use Rattle.line.specs.declared.state.Answer.{Answer}
-use Rattle.line.specs.declared.state.Answer.TheVariants.{Begun, Taken, Sealed, Opened, Abandoned}
+use Rattle.protocol.specs.declared.state.Answer.{Answer}
+use Rattle.protocol.specs.declared.state.Answer.TheVariants.{Begun, Taken, Sealed, Opened, Abandoned}
 use Rattle.line.specs.Replay.{input_size, output_size}
 
 -- How many bytes an accepted call wrote: a put as many as it took, an end the sealed block or the tail.

@@ -11,28 +11,28 @@ pub overflow_add-read_to : goal.overflow_add-read_to
 overflow_add-read_to g c =
     let old = c.args.line.now in
     let p = params_of g.K.Kind.opening g.M.Mode.steps g.C.Cipher.meaning old in
-    let (reads, writes) = within p old.state c.args.requests.now c.args.inputs.now c.args.outputs.now c.args.replies.now c.loop-i.i c.loop-i.read c.loop-i.written c.loop-i.line.state c.loop-i.outputs c.loop-i.replies (Begin 0) c.input_size.result (output_size (get_or c.args.requests.now c.loop-i.i (Begin 0))) c.loop-i-test.true c.loop-i.invariant.0 c.input_size.ensures refl in
+    let (reads, writes) = within p old.machine.state c.args.requests.now c.args.inputs.now c.args.outputs.now c.args.replies.now c.loop-i.i c.loop-i.read c.loop-i.written c.loop-i.line.machine.state c.loop-i.outputs c.loop-i.replies (Begin 0) c.input_size.result (output_size (get_or c.args.requests.now c.loop-i.i (Begin 0))) c.loop-i-test.true c.loop-i.invariant.0 c.input_size.ensures refl in
     search rules
 
 pub overflow_add-written_to : goal.overflow_add-written_to
 overflow_add-written_to g c =
     let old = c.args.line.now in
     let p = params_of g.K.Kind.opening g.M.Mode.steps g.C.Cipher.meaning old in
-    let (reads, writes) = within p old.state c.args.requests.now c.args.inputs.now c.args.outputs.now c.args.replies.now c.loop-i.i c.loop-i.read c.loop-i.written c.loop-i.line.state c.loop-i.outputs c.loop-i.replies (Begin 0) c.input_size.result c.output_size.result c.loop-i-test.true c.loop-i.invariant.0 c.input_size.ensures c.output_size.ensures in
+    let (reads, writes) = within p old.machine.state c.args.requests.now c.args.inputs.now c.args.outputs.now c.args.replies.now c.loop-i.i c.loop-i.read c.loop-i.written c.loop-i.line.machine.state c.loop-i.outputs c.loop-i.replies (Begin 0) c.input_size.result c.output_size.result c.loop-i-test.true c.loop-i.invariant.0 c.input_size.ensures c.output_size.ensures in
     search rules
 
 pub slice_bounds-perform-end : goal.slice_bounds-perform-end
 slice_bounds-perform-end g c =
     let old = c.args.line.now in
     let p = params_of g.K.Kind.opening g.M.Mode.steps g.C.Cipher.meaning old in
-    let (reads, writes) = within p old.state c.args.requests.now c.args.inputs.now c.args.outputs.now c.args.replies.now c.loop-i.i c.loop-i.read c.loop-i.written c.loop-i.line.state c.loop-i.outputs c.loop-i.replies (Begin 0) c.input_size.result c.output_size.result c.loop-i-test.true c.loop-i.invariant.0 c.input_size.ensures c.output_size.ensures in
+    let (reads, writes) = within p old.machine.state c.args.requests.now c.args.inputs.now c.args.outputs.now c.args.replies.now c.loop-i.i c.loop-i.read c.loop-i.written c.loop-i.line.machine.state c.loop-i.outputs c.loop-i.replies (Begin 0) c.input_size.result c.output_size.result c.loop-i-test.true c.loop-i.invariant.0 c.input_size.ensures c.output_size.ensures in
     search rules
 
 pub slice_bounds-perform-end-in-loop-i : goal.slice_bounds-perform-end-in-loop-i
 slice_bounds-perform-end-in-loop-i g c =
     let old = c.args.line.now in
     let p = params_of g.K.Kind.opening g.M.Mode.steps g.C.Cipher.meaning old in
-    let (reads, writes) = within p old.state c.args.requests.now c.args.inputs.now c.args.outputs.now c.args.replies.now c.loop-i.i c.loop-i.read c.loop-i.written c.loop-i.line.state c.loop-i.outputs c.loop-i.replies (Begin 0) c.input_size.result c.output_size.result c.loop-i-test.true c.loop-i.invariant.0 c.input_size.ensures c.output_size.ensures in
+    let (reads, writes) = within p old.machine.state c.args.requests.now c.args.inputs.now c.args.outputs.now c.args.replies.now c.loop-i.i c.loop-i.read c.loop-i.written c.loop-i.line.machine.state c.loop-i.outputs c.loop-i.replies (Begin 0) c.input_size.result c.output_size.result c.loop-i-test.true c.loop-i.invariant.0 c.input_size.ensures c.output_size.ensures in
     search rules
 
 pub loop-i-preserved : goal.loop-i-preserved
@@ -46,21 +46,19 @@ loop-i-preserved g c =
     let y = c.output_size.result in
     let new = c.perform.new.self in
     let did = c.perform.ensures.did in
-    let (sofar, kind, cipher, mode, number) = c.loop-i.invariant in
+    let (sofar, block_mode, number) = c.loop-i.invariant in
     let same : params_of g.K.Kind.opening g.M.Mode.steps g.C.Cipher.meaning line ≡ p =
-    λ i. params (g.K.Kind.opening (kind i)) (g.M.Mode.steps (mode i)) (g.C.Cipher.meaning (cipher i)) (number i) in
+    λ i. params (g.K.Kind.opening (block_mode i).kind) (g.M.Mode.steps (block_mode i).mode) (g.C.Cipher.meaning (block_mode i).cipher) (number i) in
     let call = call_of (get_or c.args.requests.now c.loop-i.i (Begin 0)) (take (read + x - read) (drop read c.args.inputs.now)) (take (wrote + y - wrote) (drop wrote c.loop-i.outputs)) in
-    let (reads, writes) = within p old.state c.args.requests.now c.args.inputs.now c.args.outputs.now c.args.replies.now c.loop-i.i read wrote line.state c.loop-i.outputs c.loop-i.replies (Begin 0) x y c.loop-i-test.true sofar c.input_size.ensures c.output_size.ensures in
+    let (reads, writes) = within p old.machine.state c.args.requests.now c.args.inputs.now c.args.outputs.now c.args.replies.now c.loop-i.i read wrote line.machine.state c.loop-i.outputs c.loop-i.replies (Begin 0) x y c.loop-i-test.true sofar c.input_size.ensures c.output_size.ensures in
     let lent : wrote + y - wrote ≤ length (drop wrote c.loop-i.outputs) = omega (arith, writes, length-drop wrote c.loop-i.outputs) in
     let size : length c.perform.new.output ≡ wrote + y - wrote = c.perform.auto.output ∙ length-take-le (wrote + y - wrote) (drop wrote c.loop-i.outputs) lent in
     let back : read + x - read ≡ x = omega arith in
     let back' : wrote + y - wrote ≡ y = omega arith in (
-      one_more_at p old.state c.args.requests.now c.args.inputs.now c.args.outputs.now c.args.replies.now c.loop-i.i read wrote line.state new.state c.loop-i.outputs c.loop-i.replies (Begin 0) c.perform.result c.perform.new.output (read + x - read) (wrote + y - wrote) (read + x) (wrote + y) c.loop-i-test.true c.requires.room sofar (back ∙ c.input_size.ensures) (back' ∙ c.output_size.ensures) (ap (λ n. read + n) c.input_size.ensures) (ap (λ n. wrote + n) c.output_size.ensures)
-          (subst (λ q. after q line.state call ≡ record { state = new.state; answer = c.perform.result; out = c.perform.new.output }) same did.did)
+      one_more_at p old.machine.state c.args.requests.now c.args.inputs.now c.args.outputs.now c.args.replies.now c.loop-i.i read wrote line.machine.state new.machine.state c.loop-i.outputs c.loop-i.replies (Begin 0) c.perform.result c.perform.new.output (read + x - read) (wrote + y - wrote) (read + x) (wrote + y) c.loop-i-test.true c.requires.room sofar (back ∙ c.input_size.ensures) (back' ∙ c.output_size.ensures) (ap (λ n. read + n) c.input_size.ensures) (ap (λ n. wrote + n) c.output_size.ensures)
+          (subst (λ q. after q line.machine.state call ≡ record { state = new.machine.state; answer = c.perform.result; out = c.perform.new.output }) same did.did)
           c.perform.ensures.fit size,
-      did.kind ∙ kind,
-      did.cipher ∙ cipher,
-      did.mode ∙ mode,
+      did.block_mode ∙ block_mode,
       did.number ∙ number,
     )
 
@@ -69,5 +67,5 @@ returns g c =
     let old = c.args.line.now in
     let p = params_of g.K.Kind.opening g.M.Mode.steps g.C.Cipher.meaning old in
     let room : c.loop-i.i ≤ length c.args.replies.now = omega (arith, c.requires.room) in
-    let all = all_done p old.state c.args.requests.now c.args.inputs.now c.args.outputs.now c.args.replies.now c.loop-i.i c.loop-i.read c.loop-i.written c.loop-i.line.state c.loop-i.outputs c.loop-i.replies c.loop-i-test.false room c.loop-i.invariant.0 in
+    let all = all_done p old.machine.state c.args.requests.now c.args.inputs.now c.args.outputs.now c.args.replies.now c.loop-i.i c.loop-i.read c.loop-i.written c.loop-i.line.machine.state c.loop-i.outputs c.loop-i.replies c.loop-i-test.false room c.loop-i.invariant.0 in
     record { state = all.state; out = all.out; reply = all.reply; fit = all.fit }

@@ -1,13 +1,13 @@
 use Rattle.std.proofs.Common.{◌≡◌, ◌+◌, ◌-◌, ◌<◌, ◌≤◌, length, take, drop, sym, ◌∙◌, subst, arith, rules}
 use borrow.Rule.Slice.PartMut.{put_mid}
 use Rattle.std.proofs.lemmas.List.{take_rest}
-use Rattle.stream.specs.Stream.{step_of}
+use Rattle.stream.specs.Stream.{step_through}
 use Rattle.stream.proofs.Blocks.{Passed, passed_more, passed_all}
-use Rattle.stream.proofs.fn.pass.blocks.Goals as goal
+use Rattle.stream.proofs.block_mode.fn.BlockMode.pass.blocks.Goals as goal
 
 pub loop-rest-preserved : goal.loop-rest-preserved
 loop-rest-preserved g c =
-    let step = step_of c.args.opens (g.M.Mode.steps c.args.mode.now) (g.C.Cipher.meaning c.args.cipher.now) in
+    let step = step_through g.K.Kind.opening g.M.Mode.steps g.C.Cipher.meaning c.args.through.now in
     let rest = c.loop-rest.rest.now in
     let at = c.loop-rest.at in
     let bytes = c.copy_from_slice.new.self in
@@ -20,7 +20,7 @@ loop-rest-preserved g c =
 
 pub returns : goal.returns
 returns g c =
-    let step = step_of c.args.opens (g.M.Mode.steps c.args.mode.now) (g.C.Cipher.meaning c.args.cipher.now) in
+    let step = step_through g.K.Kind.opening g.M.Mode.steps g.C.Cipher.meaning c.args.through.now in
     let short : length c.loop-rest.rest.now < 8 = search rules in
     let all = passed_all step c.args.start c.args.input.now c.args.output.now c.loop-rest.register c.loop-rest.at c.loop-rest.rest.now c.loop-rest.output c.requires short c.loop-rest.invariant in
     record { register = all.0; out = all.1 }

@@ -1,13 +1,13 @@
 use Rattle.std.proofs.Common.{◌≡◌, ◌-◌, length, take, drop, ap, ◌∙◌, arith}
 use Rattle.std.specs.List.{flat_map}
 use Rattle.block.specs.Block.{bytes_of, blocks_of}
-use Rattle.stream.specs.Stream.{step_of, outs, last_register, fitting, overwritten}
+use Rattle.stream.specs.Stream.{step_through, outs, last_register, fitting, overwritten}
 use Rattle.stream.proofs.Blocks.{take_cut}
-use Rattle.stream.proofs.pass.Goals as goal
+use Rattle.stream.proofs.BlockMode.pass.Goals as goal
 
 pub returns : goal.returns
 returns g c =
-    let step = step_of c.args.opens (g.M.Mode.steps c.args.mode.now) (g.C.Cipher.meaning c.args.cipher.now) in
+    let step = step_through g.K.Kind.opening g.M.Mode.steps g.C.Cipher.meaning c.args.self.now in
     let input = c.args.input.now in
     let output = c.args.output.now in
     let room = c.min-room.result in
