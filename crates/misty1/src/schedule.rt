@@ -13,7 +13,7 @@ impl Misty1 {
     pub fn new(key: &[u8]) -> Result<Misty1, KeyRefused>
         ensures { MatchResult result (Taken key.now) (Refused key.now) }
     {
-        // The number that the bytes of a key stand for.
+        // The number that the bytes of a key stand for. By rule a helper that loops over the slice, with its list in the contract.
         fn number(bytes: &[u8]) -> u128
             requires { length bytes.now ≤ 16 }
             ensures { result ≡ number_of bytes.now }
@@ -41,6 +41,7 @@ impl KeyRefused {
     pub fn number(&self) -> u8
         ensures { result ≡ refusal self.now }
     {
+        // A number by rule: refusals are listed by theirs (docs/LINES.md).
         43
     }
 }

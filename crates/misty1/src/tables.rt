@@ -57,6 +57,9 @@ const TABLE_9: [u16; 512] = [
     0x1fc, 0x116, 0x15c, 0x04c, 0x1c2,
 ];
 
+// The tables differ in size and in the type of an entry, so what they share is the library's index and `get`: a function
+// over both would only pass a table on to these.
+
 /// S7 at `x`, of seven bits.
 pub(crate) fn seven(x: u16) -> u16
     requires { x < 2 ^ 7 }
