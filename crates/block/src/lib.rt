@@ -22,5 +22,5 @@ pub fn to_bytes(block: u64) -> [u8; 8]
 pub fn flip(block: u64) -> u64
     ensures { result ≡ complement block }
 {
-    block ^ u64::MAX
+    !block
 }

@@ -1,2 +1,3 @@
 pub mod Words
 pub mod Rfc2994
+pub mod Lookup

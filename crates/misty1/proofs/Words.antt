@@ -2,14 +2,14 @@
 use Rattle.std.proofs.Common.{◌≡◌, ℕ, zero, suc, ◌+◌, ◌-◌, ◌*◌, ◌%◌, ◌^◌, ◌<◌, ◌≤◌, List, get_or, refl, ap, ◌∙◌, ap₂, arith, pow_mono, pow-add}
 use lib.Bits.{bit_and, bit_or, and_mask, or_shifted}
 use Rattle.misty1.specs.Functions.{FI}
-use Rattle.misty1.specs.Schedule.{K, K', subkey_of}
+use Rattle.misty1.specs.Schedule.{K', subkey_of}
 
 pub low16 : (n : ℕ) → bit_and n 65535 ≡ n % 65536
 low16 n = and_mask n 16
 
 -- K'_{m + 1} stands at the place m
 placed : (ks : List ℕ) (m : ℕ) → m < 8 → get_or (subkey_of ks) m 0 ≡ FI (get_or ks m 0) (get_or ks ((m + 1) % 8) 0)
-unfolding subkey_of K' K
+unfolding subkey_of K'
 placed ks zero h = refl
 placed ks (suc zero) h = refl
 placed ks (suc (suc zero)) h = refl
@@ -21,7 +21,7 @@ placed ks (suc (suc (suc (suc (suc (suc (suc zero))))))) h = refl
 placed ks (suc (suc (suc (suc (suc (suc (suc (suc i)))))))) h = absurd (omega arith)
 
 pub subkey_at : (ks : List ℕ) (i : ℕ) → 1 ≤ i → get_or (subkey_of ks) ((i - 1) % 8) 0 ≡ K' ks i
-unfolding K' K
+unfolding K'
 subkey_at ks i h =
     let next : ((i - 1) % 8 + 1) % 8 ≡ (i + 1 - 1) % 8 = omega arith in
     placed ks ((i - 1) % 8) (omega arith) ∙ ap (λ m. FI (get_or ks ((i - 1) % 8) 0) (get_or ks m 0)) next

@@ -7,17 +7,17 @@ abbrev pub Half : Type 0
 Half = ℕ × ℕ
 
 -- The exclusive or of halves, word by word.
-unfoldable pub mix : Half → Half → Half
+abbrev pub mix : Half → Half → Half
 mix x y = (bit_xor x.0 y.0, bit_xor x.1 y.1)
 
 -- 4.3.4.2
-unfoldable pub FL : Half → Half → Half
+abbrev pub FL : Half → Half → Half
 FL x kl =
     let right : ℕ = bit_xor (bit_and x.0 kl.0) x.1 in
     (bit_xor x.0 (bit_or right kl.1), right)
 
 -- 4.3.4.3
-unfoldable pub FL_inverse : Half → Half → Half
+abbrev pub FL_inverse : Half → Half → Half
 FL_inverse y kl =
     let left : ℕ = bit_xor y.0 (bit_or y.1 kl.1) in
     (left, bit_xor (bit_and left kl.0) y.1)
@@ -32,11 +32,11 @@ FI x ki =
     R2 * 2 ^ 9 + R3
 
 -- 4.3.4.4: one turn of FO, from L and R of the turn before
-unfoldable pub turn : Half → ℕ → ℕ → Half
+abbrev pub turn : Half → ℕ → ℕ → Half
 turn x ko ki = (x.1, bit_xor (FI (bit_xor x.0 ko) ki) x.1)
 
 -- 4.3.4.4: three turns under KO_i1 to KO_i3 and KI_i1 to KI_i3, then KO_i4
-unfoldable pub FO : Half → ℕ × ℕ × ℕ × ℕ → ℕ × ℕ × ℕ → Half
+abbrev pub FO : Half → ℕ × ℕ × ℕ × ℕ → ℕ × ℕ × ℕ → Half
 FO x ko ki =
     let y : Half = turn (turn (turn x ko.0 ki.0) ko.1 ki.1) ko.2 ki.2 in
     (bit_xor y.0 ko.3, y.1)

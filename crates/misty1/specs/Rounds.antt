@@ -13,10 +13,10 @@ abbrev pub Keyed : Type 0
 Keyed = ℕ → Half → Half
 
 -- L || R of a block, and the block of L || R.
-unfoldable pub split : ℕ → State
+abbrev pub split : ℕ → State
 split b = ((b / 2 ^ 48, b / 2 ^ 32 % 2 ^ 16), (b / 2 ^ 16 % 2 ^ 16, b % 2 ^ 16))
 
-unfoldable pub join : State → ℕ
+abbrev pub join : State → ℕ
 join s = s.0.0 * 2 ^ 48 + s.0.1 * 2 ^ 32 + s.1.0 * 2 ^ 16 + s.1.1
 
 -- The rounds i and i + 1, from L and R of round i - 1.
@@ -36,22 +36,22 @@ rounds fl fo s = closing fl (two_rounds fl fo 7 (two_rounds fl fo 5 (two_rounds 
 
 -- The keyed functions of encryption under the words of a key, and those of decryption: FL is replaced by its inverse,
 -- and the subkeys come in the reversed order.
-unfoldable pub forward_FL : List ℕ → Keyed
+abbrev pub forward_FL : List ℕ → Keyed
 forward_FL ks i x = FL x (KL ks i)
 
-unfoldable pub forward_FO : List ℕ → Keyed
+abbrev pub forward_FO : List ℕ → Keyed
 forward_FO ks i x = FO x (KO ks i) (KI ks i)
 
-unfoldable pub backward_FL : List ℕ → Keyed
+abbrev pub backward_FL : List ℕ → Keyed
 backward_FL ks i x = FL_inverse x (KL ks (11 - i))
 
-unfoldable pub backward_FO : List ℕ → Keyed
+abbrev pub backward_FO : List ℕ → Keyed
 backward_FO ks i x = forward_FO ks (9 - i) x
 
-unfoldable pub enciphered : List ℕ → ℕ → ℕ
+abbrev pub enciphered : List ℕ → ℕ → ℕ
 enciphered ks b = join (rounds (forward_FL ks) (forward_FO ks) (split b))
 
-unfoldable pub deciphered : List ℕ → ℕ → ℕ
+abbrev pub deciphered : List ℕ → ℕ → ℕ
 deciphered ks b = join (rounds (backward_FL ks) (backward_FO ks) (split b))
 
 -- The cipher under the eight words of a key, and under the sixteen bytes of a key.

@@ -14,7 +14,7 @@ abbrev pub key_words : List ℕ → List ℕ
 key_words key = words_of (number key)
 
 -- K_i among the words of the key; where i is larger than 8, 8 is subtracted.
-unfoldable pub K : List ℕ → ℕ → ℕ
+abbrev pub K : List ℕ → ℕ → ℕ
 K ks i = slice_index ks ((i - 1) % 8)
 
 -- K'_i; K_1 comes after K_8.
@@ -25,13 +25,13 @@ K' ks i = FI (K ks i) (K ks (i + 1))
 unfoldable pub subkey_of : List ℕ → List ℕ
 subkey_of ks = K' ks 1 ∷ K' ks 2 ∷ K' ks 3 ∷ K' ks 4 ∷ K' ks 5 ∷ K' ks 6 ∷ K' ks 7 ∷ K' ks 8 ∷ []
 
-unfoldable pub KO : List ℕ → ℕ → ℕ × ℕ × ℕ × ℕ
+abbrev pub KO : List ℕ → ℕ → ℕ × ℕ × ℕ × ℕ
 KO ks i = (K ks i, K ks (i + 2), K ks (i + 7), K ks (i + 4))
 
-unfoldable pub KI : List ℕ → ℕ → ℕ × ℕ × ℕ
+abbrev pub KI : List ℕ → ℕ → ℕ × ℕ × ℕ
 KI ks i = (K' ks (i + 5), K' ks (i + 1), K' ks (i + 3))
 
-unfoldable pub KL : List ℕ → ℕ → Half
+abbrev pub KL : List ℕ → ℕ → Half
 KL ks i =
     cond (i % 2 == 1)
     (K ks ((i + 1) / 2), K' ks ((i + 1) / 2 + 6))

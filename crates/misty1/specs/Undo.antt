@@ -7,18 +7,15 @@ use Rattle.misty1.specs.Functions.{Half, mix, FL, FL_inverse}
 use Rattle.misty1.specs.Rounds.{State, Keyed, two_rounds, closing, rounds}
 
 mix_twice : (x y : Half) → mix (mix x y) y ≡ x
-unfolding mix
 mix_twice x y = λ i. (xor_twice x.0 y.0 i, xor_twice x.1 y.1 i)
 
 pub FL_undone : (x kl : Half) → FL_inverse (FL x kl) kl ≡ x
-unfolding FL FL_inverse
 FL_undone x kl =
     let right : ℕ = bit_xor (bit_and x.0 kl.0) x.1 in
     let left = xor_twice x.0 (bit_or right kl.1) in
     λ i. (left i, (ap (λ l. bit_xor (bit_and l kl.0) right) left ∙ xor_twice_left (bit_and x.0 kl.0) x.1) i)
 
 pub FL_redone : (y kl : Half) → FL (FL_inverse y kl) kl ≡ y
-unfolding FL FL_inverse
 FL_redone y kl =
     let left : ℕ = bit_xor y.0 (bit_or y.1 kl.1) in
     let right = xor_twice_left (bit_and left kl.0) y.1 in

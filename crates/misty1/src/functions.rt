@@ -4,6 +4,7 @@ ghost use Rattle.misty1.specs.Functions.{mix as mixing, FL, FL_inverse, FI, turn
 
 use crate::tables::{nine, seven};
 
+// By rule a pair and no struct: the standard's functions take and give two words.
 /// A half of a block: its left word and its right word.
 pub(crate) type Half = (u16, u16);
 

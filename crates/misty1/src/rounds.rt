@@ -1,5 +1,5 @@
 // The rounds, which are the same for both ways through the cipher but for FL and the order of the subkeys.
-ghost use Rattle.std.specs.Prelude.{◌≡◌, ℕ, ◌≤◌, List};
+ghost use Rattle.std.specs.Prelude.{◌≡◌, ◌≤◌};
 ghost use Rattle.misty1.specs.Schedule.{K, K', KL};
 ghost use Rattle.misty1.specs.Rounds.{Keyed, split as splitting, join as joining, two_rounds as round_pair, rounds, forward_FL, forward_FO, backward_FL, backward_FO};
 ghost use Rattle.misty1.specs.Key.{means};
@@ -8,6 +8,7 @@ ghost use Rattle.misty1.specs.Sound;
 use crate::Misty1;
 use crate::functions::{Half, fl, fl_inverse, fo, mix};
 use cipher::Cipher;
+use std::array;
 
 /// A block between rounds: L and R.
 type State = (Half, Half);
@@ -18,11 +19,11 @@ impl Cipher for Misty1 {
     ghost sound = { λ c. Sound.sound c.key c.fits };
 
     fn encipher(&self, block: u64) -> u64 {
-        join(crypt::<Forward>(self, split(block)))
+        join(crypt(&Forward { cipher: self }, split(block)))
     }
 
     fn decipher(&self, block: u64) -> u64 {
-        join(crypt::<Backward>(self, split(block)))
+        join(crypt(&Backward { cipher: self }, split(block)))
     }
 }
 
@@ -30,26 +31,31 @@ impl Cipher for Misty1 {
 fn split(block: u64) -> State
     ensures { result ≡ splitting block }
 {
-    (
-        ((block >> 48) as u16, (block >> 32 & 0xffff) as u16),
-        ((block >> 16 & 0xffff) as u16, (block & 0xffff) as u16),
-    )
+    let [a, b, c, d]: [u16; 4] = array::from_fn(|i| (block >> (48 - 16 * i) & 0xffff) as u16);
+    ((a, b), (c, d))
 }
 
 /// The block of L and R.
 fn join(s: State) -> u64
     ensures { result ≡ joining s }
 {
-    (s.0.0 as u64) << 48 | (s.0.1 as u64) << 32 | (s.1.0 as u64) << 16 | s.1.1 as u64
+    let ((a, b), (c, d)) = s;
+    u64::from(a) << 48 | u64::from(b) << 32 | u64::from(c) << 16 | u64::from(d)
+}
+
+/// The word with the number `i` of eight; where `i` is larger than 8, 8 is subtracted.
+fn word(words: &[u16; 8], i: usize) -> u16
+    ensures { result ≡ K words.now i }
+{
+    words[i.saturating_sub(1) % 8]
 }
 
 impl Misty1 {
     /// K_i.
     fn k(&self, i: usize) -> u16
-        requires { 1 ≤ i }
         ensures { result ≡ K self.now.key i }
     {
-        self.key[(i - 1) % 8]
+        word(&self.key, i)
     }
 
     /// K'_i.
@@ -57,12 +63,12 @@ impl Misty1 {
         requires { 1 ≤ i }
         ensures { result ≡ K' self.now.key i }
     {
-        self.subkey[(i - 1) % 8]
+        word(&self.subkey, i)
     }
 
     /// KL_i.
     fn kl(&self, i: usize) -> Half
-        requires { (1 ≤ i) × (i ≤ 10) }
+        requires { i ≤ 11 }
         ensures { result ≡ KL self.now.key i }
     {
         if i % 2 == 1 {
@@ -71,87 +77,98 @@ impl Misty1 {
             (self.k_sub(i / 2 + 2), self.k(i / 2 + 4))
         }
     }
-}
 
-/// One way through the cipher: its FL and its FO, by the number of their subkeys.
-trait Way {
-    ghost FL: { List ℕ → Keyed };
-
-    ghost FO: { List ℕ → Keyed };
-
-    fn fl(cipher: &Misty1, i: usize, x: Half) -> Half
-        requires { (1 ≤ i) × (i ≤ 10) }
-        ensures { result ≡ FL cipher.now.key i x };
-
-    fn fo(cipher: &Misty1, i: usize, x: Half) -> Half
-        requires { (1 ≤ i) × (i ≤ 8) }
-        ensures { result ≡ FO cipher.now.key i x };
-}
-
-/// Encryption.
-struct Forward;
-
-impl Way for Forward {
-    ghost FL = { forward_FL };
-
-    ghost FO = { forward_FO };
-
-    fn fl(cipher: &Misty1, i: usize, x: Half) -> Half {
-        fl(x, cipher.kl(i))
-    }
-
-    fn fo(cipher: &Misty1, i: usize, x: Half) -> Half {
+    /// FO under KO_i and KI_i.
+    fn fo(&self, i: usize, x: Half) -> Half
+        requires { i ≤ 9 }
+        ensures { result ≡ forward_FO self.now.key i x }
+    {
         fo(
             x,
-            (
-                cipher.k(i),
-                cipher.k(i + 2),
-                cipher.k(i + 7),
-                cipher.k(i + 4),
-            ),
-            (
-                cipher.k_sub(i + 5),
-                cipher.k_sub(i + 1),
-                cipher.k_sub(i + 3),
-            ),
+            (self.k(i), self.k(i + 2), self.k(i + 7), self.k(i + 4)),
+            (self.k_sub(i + 5), self.k_sub(i + 1), self.k_sub(i + 3)),
         )
     }
 }
 
-/// Decryption: FL is replaced by its inverse, and the subkeys come in the reversed order.
-struct Backward;
+/// One way through a cipher: its FL and its FO, by the number of their subkeys.
+///
+/// The numbers go from 1 to 10 and from 1 to 8; decryption takes them from 11 and from 9, hence the bounds.
+trait Way {
+    ghost FL: { Self → Keyed };
 
-impl Way for Backward {
-    ghost FL = { backward_FL };
+    ghost FO: { Self → Keyed };
 
-    ghost FO = { backward_FO };
+    fn fl(&self, i: usize, x: Half) -> Half
+        requires { i ≤ 11 }
+        ensures { result ≡ FL self.now i x };
 
-    fn fl(cipher: &Misty1, i: usize, x: Half) -> Half {
-        fl_inverse(x, cipher.kl(11 - i))
+    fn fo(&self, i: usize, x: Half) -> Half
+        requires { i ≤ 9 }
+        ensures { result ≡ FO self.now i x };
+}
+
+/// Encryption.
+#[derive(Drop)]
+struct Forward<'a> {
+    cipher: &'a Misty1,
+}
+
+impl Way for Forward<'_> {
+    ghost FL = { λ w. forward_FL w.cipher.now.key };
+
+    ghost FO = { λ w. forward_FO w.cipher.now.key };
+
+    fn fl(&self, i: usize, x: Half) -> Half {
+        fl(x, self.cipher.kl(i))
     }
 
-    fn fo(cipher: &Misty1, i: usize, x: Half) -> Half {
-        <Forward as Way>::fo(cipher, 9 - i, x)
+    fn fo(&self, i: usize, x: Half) -> Half {
+        self.cipher.fo(i, x)
+    }
+}
+
+/// Decryption: FL is replaced by its inverse, and the subkeys come in the reversed order.
+#[derive(Drop)]
+struct Backward<'a> {
+    cipher: &'a Misty1,
+}
+
+impl Way for Backward<'_> {
+    ghost FL = { λ w. backward_FL w.cipher.now.key };
+
+    ghost FO = { λ w. backward_FO w.cipher.now.key };
+
+    fn fl(&self, i: usize, x: Half) -> Half {
+        fl_inverse(x, self.cipher.kl(11 - i))
+    }
+
+    fn fo(&self, i: usize, x: Half) -> Half {
+        self.cipher.fo(9 - i, x)
     }
 }
 
 /// The rounds `i` and `i` + 1.
-fn two_rounds<W: Way>(cipher: &Misty1, i: usize, s: State) -> State
-    requires { (1 ≤ i) × (i ≤ 7) }
-    ensures { result ≡ round_pair (W.Way.FL cipher.now.key) (W.Way.FO cipher.now.key) i s }
+#[tactic(auto, unfolding(crate::specs::Rounds::two_rounds))]
+fn two_rounds<W: Way>(way: &W, i: usize, s: State) -> State
+    requires { i ≤ 8 }
+    ensures { result ≡ round_pair (W.Way.FL way.now) (W.Way.FO way.now) i s }
 {
-    let right = W::fl(cipher, i, s.0);
-    let left = mix(W::fl(cipher, i + 1, s.1), W::fo(cipher, i, right));
-    (mix(right, W::fo(cipher, i + 1, left)), left)
+    let right = way.fl(i, s.0);
+    let left = mix(way.fl(i + 1, s.1), way.fo(i, right));
+    (mix(right, way.fo(i + 1, left)), left)
 }
 
 /// Eight rounds and the closing step.
-fn crypt<W: Way>(cipher: &Misty1, s: State) -> State
-    ensures { result ≡ rounds (W.Way.FL cipher.now.key) (W.Way.FO cipher.now.key) s }
+#[tactic(auto, unfolding(crate::specs::Rounds::rounds, crate::specs::Rounds::closing))]
+fn crypt<W: Way>(way: &W, s: State) -> State
+    ensures { result ≡ rounds (W.Way.FL way.now) (W.Way.FO way.now) s }
 {
-    let s = two_rounds::<W>(cipher, 1, s);
-    let s = two_rounds::<W>(cipher, 3, s);
-    let s = two_rounds::<W>(cipher, 5, s);
-    let s = two_rounds::<W>(cipher, 7, s);
-    (W::fl(cipher, 10, s.1), W::fl(cipher, 9, s.0))
+    // Four calls: a fold over 1, 3, 5 and 7 was tried, and enciphers a sixth slower, since the numbers are then not known
+    // where the words of the key are read.
+    let s = two_rounds(way, 1, s);
+    let s = two_rounds(way, 3, s);
+    let s = two_rounds(way, 5, s);
+    let s = two_rounds(way, 7, s);
+    (way.fl(10, s.1), way.fl(9, s.0))
 }

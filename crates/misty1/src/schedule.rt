@@ -6,13 +6,14 @@ ghost use Rattle.misty1.specs.Key.{refusal, Taken, Refused};
 
 use crate::functions::fi;
 use crate::{KeyRefused, Misty1};
+use std::array;
 
 impl Misty1 {
     /// MISTY1 under a key of sixteen bytes; a key of any other length is refused.
     pub fn new(key: &[u8]) -> Result<Misty1, KeyRefused>
         ensures { MatchResult result (Taken key.now) (Refused key.now) }
     {
-        // The number that the bytes of a key stand for.
+        // The number that the bytes of a key stand for. By rule a helper that loops over the slice, with its list in the contract.
         fn number(bytes: &[u8]) -> u128
             requires { length bytes.now ≤ 16 }
             ensures { result ≡ number_of bytes.now }
@@ -40,6 +41,7 @@ impl KeyRefused {
     pub fn number(&self) -> u8
         ensures { result ≡ refusal self.now }
     {
+        // A number by rule: refusals are listed by theirs (docs/LINES.md).
         43
     }
 }
@@ -48,31 +50,12 @@ impl KeyRefused {
 fn split(n: u128) -> [u16; 8]
     ensures { result ≡ words_of n }
 {
-    [
-        (n >> 112 & 0xffff) as u16,
-        (n >> 96 & 0xffff) as u16,
-        (n >> 80 & 0xffff) as u16,
-        (n >> 64 & 0xffff) as u16,
-        (n >> 48 & 0xffff) as u16,
-        (n >> 32 & 0xffff) as u16,
-        (n >> 16 & 0xffff) as u16,
-        (n & 0xffff) as u16,
-    ]
+    array::from_fn(|i| (n >> (112 - 16 * i) & 0xffff) as u16)
 }
 
 /// The words of the subkey: each word of the key mixed with the next one.
 fn mixed(key: [u16; 8]) -> [u16; 8]
     ensures { result ≡ subkey_of key }
 {
-    let [k1, k2, k3, k4, k5, k6, k7, k8] = key;
-    [
-        fi(k1, k2),
-        fi(k2, k3),
-        fi(k3, k4),
-        fi(k4, k5),
-        fi(k5, k6),
-        fi(k6, k7),
-        fi(k7, k8),
-        fi(k8, k1),
-    ]
+    array::from_fn(|i| fi(key[i], key[(i + 1) % 8]))
 }

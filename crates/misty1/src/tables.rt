@@ -57,13 +57,16 @@ const TABLE_9: [u16; 512] = [
     0x1fc, 0x116, 0x15c, 0x04c, 0x1c2,
 ];
 
+// The tables differ in size and in the type of an entry, so what they share is the library's index and `get`: a function
+// over both would only pass a table on to these.
+
 /// S7 at `x`, of seven bits.
 pub(crate) fn seven(x: u16) -> u16
     requires { x < 2 ^ 7 }
     ensures entry { result ≡ S7 x }
     ensures fits { result < 2 ^ 7 }
 {
-    TABLE_7[x as usize] as u16
+    u16::from(TABLE_7[usize::from(x)])
 }
 
 /// S9 at `x`, of nine bits.
@@ -72,7 +75,7 @@ pub(crate) fn nine(x: u16) -> u16
     ensures entry { result ≡ S9 x }
     ensures fits { result < 2 ^ 9 }
 {
-    TABLE_9[x as usize]
+    TABLE_9[usize::from(x)]
 }
 
 /// S7 at `x`; nothing where `x` has more than seven bits.
@@ -82,11 +85,7 @@ pub fn s7(x: u8) -> Option<u8>
     ensures entry { MatchOption result (2 ^ 7 ≤ x) (λ y. (x < 2 ^ 7) × (y ≡ S7 x)) }
     ensures stands { S7Stands }
 {
-    if x < 128 {
-        Some(seven(x as u16) as u8)
-    } else {
-        None
-    }
+    TABLE_7.get(usize::from(x)).copied()
 }
 
 /// S9 at `x`; nothing where `x` has more than nine bits.
@@ -96,5 +95,5 @@ pub fn s9(x: u16) -> Option<u16>
     ensures entry { MatchOption result (2 ^ 9 ≤ x) (λ y. (x < 2 ^ 9) × (y ≡ S9 x)) }
     ensures stands { S9Stands }
 {
-    if x < 512 { Some(nine(x)) } else { None }
+    TABLE_9.get(usize::from(x)).copied()
 }

@@ -1,4 +1,3 @@
-// Cipher block chaining: each plain block is mixed with the sealed block before it.
 ghost use Rattle.mode.specs.Modes.{cbc};
 ghost use Rattle.mode.specs.Lawful.{cbc_lawful};
 

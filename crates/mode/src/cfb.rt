@@ -1,4 +1,3 @@
-// Cipher feedback, whole blocks: the sealed block before it, enciphered, is mixed into each plain block.
 ghost use Rattle.mode.specs.Modes.{cfb};
 ghost use Rattle.mode.specs.Lawful.{cfb_lawful};
 

@@ -1,4 +1,3 @@
-// Electronic codebook: each block by itself, the register unused.
 ghost use Rattle.mode.specs.Modes.{ecb};
 ghost use Rattle.std.proofs.Common.{rules};
 

@@ -1,4 +1,3 @@
-// Output feedback: the register, enciphered again and again, is mixed into the blocks.
 ghost use Rattle.mode.specs.Modes.{ofb};
 ghost use Rattle.mode.specs.Lawful.{ofb_lawful};
 
@@ -20,7 +19,7 @@ impl Mode for Ofb {
     }
 
     fn open<C: Cipher>(&self, cipher: &C, register: u64, block: u64) -> (u64, u64) {
-        let mask = cipher.encipher(register);
-        (block ^ mask, mask)
+        // The mask does not depend on the block, so mixing it in once more takes it out.
+        self.seal(cipher, register, block)
     }
 }

@@ -14,7 +14,7 @@ pub fn pad(tail: &[u8]) -> Option<[u8; 8]>
         return None;
     }
     let mut block = [0u8; 8];
-    block[0..n].copy_from_slice(tail);
+    block[..n].copy_from_slice(tail);
     block[n] = 0x80;
     Some(block)
 }
@@ -23,15 +23,6 @@ pub fn pad(tail: &[u8]) -> Option<[u8; 8]>
 pub fn tail_length(block: [u8; 8]) -> Option<usize>
     ensures { result ≡ tail_length_of block }
 {
-    let mut at = 8;
-    while at > 0 {
-        at -= 1;
-        if block[at] == 0x80 {
-            return Some(at);
-        }
-        if block[at] != 0 {
-            return None;
-        }
-    }
-    None
+    let at = block.iter().rposition(|byte| *byte != 0)?;
+    (block[at] == 0x80).then_some(at)
 }

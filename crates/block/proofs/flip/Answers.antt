@@ -1,7 +1,6 @@
-use Rattle.std.proofs.Common.{refl}
-use Rattle.block.specs.Block.{flip}
+use Rattle.std.proofs.Common.{arith}
+use Rattle.block.proofs.Complement.{flip_sum}
 use Rattle.block.proofs.flip.Goals as goal
 
 pub returns : goal.returns
-unfolding flip
-returns c = refl
+returns c = omega (arith, flip_sum c.args.block)

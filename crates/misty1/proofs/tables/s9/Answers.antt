@@ -1,9 +1,11 @@
-use Rattle.std.proofs.Common.{rules}
+use Rattle.misty1.specs.Tables.{S9, table9}
 use Rattle.misty1.specs.Boxes.{S9_is}
+use Rattle.misty1.proofs.Lookup.{looked_up}
 use Rattle.misty1.proofs.tables.s9.Goals as goal
 
-pub returns-then-x-lt512 : goal.returns-then-x-lt512
-returns-then-x-lt512 c = record { entry = search rules; stands = S9_is }
-
-pub returns-else-x-lt512 : goal.returns-else-x-lt512
-returns-else-x-lt512 c = record { entry = search rules; stands = S9_is }
+pub returns : goal.returns
+unfolding S9 table9
+returns c = record {
+  entry = looked_up table9 _ _ c.from.ensures _ c.get.ensures.lookup _ c.copied.ensures;
+  stands = S9_is;
+}

@@ -1,15 +1,14 @@
-use Rattle.std.proofs.Common.{sym, ◌∙◌, arith}
-use Rattle.mode.proofs.Padded.{tail_here, tail_on, tail_none, tail_nowhere}
+use Rattle.std.proofs.Common.{rules, ◌≡◌, ◌≢◌, ℕ, ◌<◌, slice_index, sym, ◌∙◌}
+use Rattle.mode.proofs.Padded.{tail_none, tail_last}
 use Rattle.mode.proofs.padding.tail_length.Goals as goal
 
-pub returns-then-block-at : goal.returns-then-block-at
-returns-then-block-at c = sym (tail_here c.args.block c.loop-at.at (omega arith) c.if-block-at.true) ∙ c.loop-at.invariant.1
-
-pub returns-then-block-at-ne0 : goal.returns-then-block-at-ne0
-returns-then-block-at-ne0 c = sym (tail_none c.args.block c.loop-at.at (omega arith) c.if-block-at.false c.if-block-at-ne0.true) ∙ c.loop-at.invariant.1
-
-pub loop-at-preserved : goal.loop-at-preserved
-loop-at-preserved c = (omega arith, tail_on c.args.block c.loop-at.at (omega arith) (omega arith) ∙ c.loop-at.invariant.1)
+pub returns-in_err-at : goal.returns-in_err-at
+returns-in_err-at c =
+    let zeros : (k : ℕ) → k < 8 → slice_index c.args.block k ≡ 0 = λ k h. search rules in
+    c.from_residual.ensures ∙ sym (tail_none c.args.block 8 zeros)
 
 pub returns : goal.returns
-returns c = sym (tail_nowhere c.args.block c.loop-at.at (omega arith)) ∙ c.loop-at.invariant.1
+returns c =
+    let here : slice_index c.args.block c.in_ok-at.at ≢ 0 = search rules in
+    let zeros : (k : ℕ) → c.in_ok-at.at < k → k < 8 → slice_index c.args.block k ≡ 0 = λ k l h. search rules in
+    c.then_some.ensures ∙ sym (tail_last c.args.block 8 c.in_ok-at.at (search rules) here zeros)
