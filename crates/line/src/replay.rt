@@ -47,6 +47,7 @@ fn perform_all<K: Kind, C: Cipher, M: Mode>(
     ensures reply { replies.new ≡ overwritten (answers (run (params_of K.Kind.opening M.Mode.steps C.Cipher.meaning line.old) line.old.machine.state (calls requests.now inputs.now outputs.old))) replies.old }
     ensures fit { AllFit (calls requests.now inputs.now outputs.old) }
 {
+    // By place: after a loop over `replies.iter_mut()` no proof knows what the replies are (tried), and so with the outputs.
     let mut read = 0;
     let mut written = 0;
     for (i, request) in requests.iter().enumerate() {

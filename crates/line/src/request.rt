@@ -3,7 +3,7 @@ ghost use Rattle.std.specs.Prelude.{◌≡◌};
 ghost use Rattle.line.specs.Replay.{input_size, output_size};
 
 /// A call whose buffers are given by their lengths, and whose slip is given by its two numbers.
-#[derive(Clone, Copy)]
+#[derive(Clone, Copy, PartialEq, Eq, Debug)]
 pub enum Request {
     Begin {
         start: u64,
@@ -49,5 +49,5 @@ impl Request {
 }
 
 /// The buffers lent to `replay` do not hold what the list of calls asks for.
-#[derive(Clone, Copy)]
+#[derive(Clone, Copy, PartialEq, Eq, Debug)]
 pub struct Misfit;

@@ -36,7 +36,8 @@ impl Machine {
         *state
     }
 
-    /// Decides a call on the line with this number, and counts it where it is accepted.
+    /// Decides a call on the line with this number, and counts it where it is accepted. `opens` is a flag as in the rules: it
+    /// only tells which answer an end has.
     pub fn advance(&mut self, number: u8, opens: bool, event: Event) -> Result<Answer, Refusal>
         ensures result { result ≡ outcome (refusal_of number self.old.state event) (answer_to number opens self.old.state event) }
         ensures after { self.new.state ≡ unless (refusal_of number self.old.state event) self.old.state (next self.old.state event) }

@@ -130,7 +130,7 @@ impl State {
                     output,
                 },
             ) => {
-                if line != number || file != running {
+                if (line, file) != (number, running) {
                     return Err(Refusal::ForeignSlip);
                 }
                 let Some(last) = last else {
@@ -158,7 +158,7 @@ impl State {
             }
             (None, Event::Abandon { .. }) => Err(Refusal::NothingRuns),
             (Some(running), Event::Abandon { line, file }) => {
-                if line != number || file != running {
+                if (line, file) != (number, running) {
                     return Err(Refusal::ForeignSlip);
                 }
                 self.running = None;

@@ -53,6 +53,7 @@ impl<K: Kind, C: Cipher, M: Mode> BlockMode<K, C, M> {
                 let (given, next) = through
                     .kind
                     .step(&through.cipher, &through.mode, register, taken);
+                // By place: after a loop over `output.chunks_exact_mut(8)` no proof knows what the chunks hold (tried).
                 output[at..at + 8].copy_from_slice(&block::to_bytes(given));
                 register = next;
                 at += 8;

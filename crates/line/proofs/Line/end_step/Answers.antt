@@ -9,7 +9,8 @@ pub returns-in_err-answer : goal.returns-in_err-answer
 returns-in_err-answer g c =
     let old = c.args.self.now in
     let p = params_of g.K.Kind.opening g.M.Mode.steps g.C.Cipher.meaning old in
-    let worked = c.last_block-last.ensures ∙ ap (λ r. last_of p.opens p.step r c.args.input.now) c.register.ensures in
+    let worked : c.last_block-last.result ≡ last_of p.opens p.step old.machine.state.register c.args.input.now =
+    c.last_block-last.ensures ∙ ap (λ r. last_of p.opens p.step r c.args.input.now) c.register.ensures in
     let said = c.in_err-answer.ensures in
     let e = err_from_is_err_and c.from_residual.result c.from_residual.ensures.1 in
     rw (e.1, e.2) (record {
