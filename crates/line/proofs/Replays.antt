@@ -189,3 +189,10 @@ module _ (p : Params) (start : State) (rs : List Request) (inputs outputs : List
       whole now old n front ef eb fits =
           let long : length front ≡ n = sym (ap length ef) ∙ length-take-le n now fits in
           sym (take-append-drop n now) ∙ (λ i. ef i ++ eb i) ∙ ap (λ m. front ++ drop m old) (sym long)
+
+-- the next call stays within the buffers, for the loop
+pub room_for : {p : Params} {start : State} {rs : List Request} {inputs outputs : List ℕ} {replies : List (Result Answer Refusal)}
+    {k read wrote : ℕ} {s : State} {outs : List ℕ} {reps : List (Result Answer Refusal)} {x y : ℕ}
+    (d : Request) → k < length rs → Sofar p start rs inputs outputs replies k read wrote s outs reps → x ≡ input_size (get_or rs k d) → y ≡ output_size (get_or rs k d)
+    → (read + x ≤ length inputs) × (wrote + y ≤ length outs)
+room_for d here h ex ey = within _ _ _ _ _ _ _ _ _ _ _ _ _ _ _ here h ex ey

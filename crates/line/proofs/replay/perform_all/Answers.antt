@@ -3,36 +3,28 @@ use Rattle.std.proofs.lemmas.List.{length-take-le}
 use Rattle.line.specs.declared.request.Request.TheVariants.{Begin}
 use Rattle.line.specs.Performs.{params_of}
 use Rattle.line.specs.Model.{params, after}
-use Rattle.line.specs.Replay.{output_size, call_of}
-use Rattle.line.proofs.Replays.{within, one_more_at, all_done}
+use Rattle.line.specs.Replay.{call_of}
+use Rattle.line.proofs.Replays.{room_for, one_more_at, all_done}
 use Rattle.line.proofs.replay.perform_all.Goals as goal
 
 pub overflow_add-read_to : goal.overflow_add-read_to
 overflow_add-read_to g c =
-    let old = c.args.line.now in
-    let p = params_of g.K.Kind.opening g.M.Mode.steps g.C.Cipher.meaning old in
-    let (reads, writes) = within p old.machine.state c.args.requests.now c.args.inputs.now c.args.outputs.now c.args.replies.now c.loop-i.i c.loop-i.read c.loop-i.written c.loop-i.line.machine.state c.loop-i.outputs c.loop-i.replies (Begin 0) c.input_size.result (output_size (get_or c.args.requests.now c.loop-i.i (Begin 0))) c.loop-i-test.true c.loop-i.invariant.0 c.input_size.ensures refl in
+    let room = room_for (Begin 0) c.loop-i-test.true c.loop-i.invariant.0 c.input_size.ensures refl in
     search rules
 
 pub overflow_add-written_to : goal.overflow_add-written_to
 overflow_add-written_to g c =
-    let old = c.args.line.now in
-    let p = params_of g.K.Kind.opening g.M.Mode.steps g.C.Cipher.meaning old in
-    let (reads, writes) = within p old.machine.state c.args.requests.now c.args.inputs.now c.args.outputs.now c.args.replies.now c.loop-i.i c.loop-i.read c.loop-i.written c.loop-i.line.machine.state c.loop-i.outputs c.loop-i.replies (Begin 0) c.input_size.result c.output_size.result c.loop-i-test.true c.loop-i.invariant.0 c.input_size.ensures c.output_size.ensures in
+    let room = room_for (Begin 0) c.loop-i-test.true c.loop-i.invariant.0 c.input_size.ensures c.output_size.ensures in
     search rules
 
 pub slice_bounds-perform-end : goal.slice_bounds-perform-end
 slice_bounds-perform-end g c =
-    let old = c.args.line.now in
-    let p = params_of g.K.Kind.opening g.M.Mode.steps g.C.Cipher.meaning old in
-    let (reads, writes) = within p old.machine.state c.args.requests.now c.args.inputs.now c.args.outputs.now c.args.replies.now c.loop-i.i c.loop-i.read c.loop-i.written c.loop-i.line.machine.state c.loop-i.outputs c.loop-i.replies (Begin 0) c.input_size.result c.output_size.result c.loop-i-test.true c.loop-i.invariant.0 c.input_size.ensures c.output_size.ensures in
+    let room = room_for (Begin 0) c.loop-i-test.true c.loop-i.invariant.0 c.input_size.ensures c.output_size.ensures in
     search rules
 
 pub slice_bounds-perform-end-in-loop-i : goal.slice_bounds-perform-end-in-loop-i
 slice_bounds-perform-end-in-loop-i g c =
-    let old = c.args.line.now in
-    let p = params_of g.K.Kind.opening g.M.Mode.steps g.C.Cipher.meaning old in
-    let (reads, writes) = within p old.machine.state c.args.requests.now c.args.inputs.now c.args.outputs.now c.args.replies.now c.loop-i.i c.loop-i.read c.loop-i.written c.loop-i.line.machine.state c.loop-i.outputs c.loop-i.replies (Begin 0) c.input_size.result c.output_size.result c.loop-i-test.true c.loop-i.invariant.0 c.input_size.ensures c.output_size.ensures in
+    let room = room_for (Begin 0) c.loop-i-test.true c.loop-i.invariant.0 c.input_size.ensures c.output_size.ensures in
     search rules
 
 pub loop-i-preserved : goal.loop-i-preserved
@@ -50,7 +42,7 @@ loop-i-preserved g c =
     let same : params_of g.K.Kind.opening g.M.Mode.steps g.C.Cipher.meaning line ≡ p =
     λ i. params (g.K.Kind.opening (block_mode i).kind) (g.M.Mode.steps (block_mode i).mode) (g.C.Cipher.meaning (block_mode i).cipher) (number i) in
     let call = call_of (get_or c.args.requests.now c.loop-i.i (Begin 0)) (take (read + x - read) (drop read c.args.inputs.now)) (take (wrote + y - wrote) (drop wrote c.loop-i.outputs)) in
-    let (reads, writes) = within p old.machine.state c.args.requests.now c.args.inputs.now c.args.outputs.now c.args.replies.now c.loop-i.i read wrote line.machine.state c.loop-i.outputs c.loop-i.replies (Begin 0) x y c.loop-i-test.true sofar c.input_size.ensures c.output_size.ensures in
+    let (reads, writes) = room_for (Begin 0) c.loop-i-test.true sofar c.input_size.ensures c.output_size.ensures in
     let lent : wrote + y - wrote ≤ length (drop wrote c.loop-i.outputs) = omega (arith, writes, length-drop wrote c.loop-i.outputs) in
     let size : length c.perform.new.output ≡ wrote + y - wrote = c.perform.auto.output ∙ length-take-le (wrote + y - wrote) (drop wrote c.loop-i.outputs) lent in
     let back : read + x - read ≡ x = omega arith in
