@@ -8,7 +8,7 @@ use crate::refusal::Refusal;
 pub const BLOCK_LIMIT: u32 = 1_048_576;
 
 /// Where a line stands: a plain record, changed only by the line's calls.
-#[derive(Clone, Copy)]
+#[derive(Clone, Copy, PartialEq, Eq, Debug)]
 pub struct State {
     /// The register R of the mode.
     pub register: u64,
