@@ -6,4 +6,3 @@ pub mod Complements
 pub mod Instances
 pub mod AllLaws
 pub mod Replays
-pub mod Kept

@@ -5,4 +5,3 @@ pub mod Model
 pub mod Performs
 pub mod Laws
 pub mod Replay
-pub mod Holds

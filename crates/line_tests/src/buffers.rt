@@ -1,12 +1,14 @@
 // What a call writes and what it leaves, and how it counts.
 use crate::ciphers::{KEY, misty1};
-use crate::session::{Ends, Seen, Session, begun};
-use line::kind::{Opening, Sealing};
+use crate::sessions::{begun, seen};
+use line::kind::{Kind, Opening, Sealing};
+use line::state::State;
 use mode::cbc::Cbc;
+use session::Session;
 use std::process::Abort;
 use std::test::Fail;
 
-fn put_leaves_the_rest<K: Ends + Drop + Copy>(rt: &impl Abort, kind: K) -> Result<(), Fail> {
+fn put_leaves_the_rest<K: Kind + Drop + Copy>(rt: &impl Abort, kind: K) -> Result<(), Fail> {
     let (mut long, mut exact) = ([0xa5; 24], [0xa5; 16]);
     let (mut one, mut other) = (begun(rt, kind, Cbc, 7)?, begun(rt, kind, Cbc, 7)?);
     let puts = (
@@ -48,16 +50,16 @@ fn ends_write_a_block_or_a_tail_alone(rt: HostRuntime) -> Result<(), Fail> {
     Ok(())
 }
 
-fn put_nothing<K: Ends + Drop>(rt: &impl Abort, kind: K) -> Result<(), Fail> {
+fn put_nothing<K: Kind + Drop>(rt: &impl Abort, kind: K) -> Result<(), Fail> {
     let mut output = [0xa5; 16];
     let mut session = begun(rt, kind, Cbc, 7)?;
     assert_eq!(rt; session.put(&[0x3c; 8], &mut output), Ok(1));
-    let (before, bytes) = (session.seen(), output);
+    let (before, bytes) = (seen(&session), output);
     assert_eq!(rt;
         (session.put(&[], &mut output), session.put(&[], &mut [])),
         (Ok(0), Ok(0))
     );
-    assert_eq!(rt; (session.seen(), output), (before, bytes));
+    assert_eq!(rt; (seen(&session), output), (before, bytes));
     Ok(())
 }
 
@@ -67,16 +69,16 @@ fn puts_of_no_blocks_change_nothing(rt: HostRuntime) -> Result<(), Fail> {
     put_nothing(&rt, Opening)
 }
 
-fn abandon_and_begin<K: Ends + Drop>(rt: &impl Abort, kind: K) -> Result<(), Fail> {
+fn abandon_and_begin<K: Kind + Drop>(rt: &impl Abort, kind: K) -> Result<(), Fail> {
     let mut output = [0; 16];
     let mut session = Session::new(kind, misty1(KEY)?, Cbc, 7);
-    let new = session.seen();
+    let new = seen(&session);
     let begin = session.begin(5);
-    let begun = session.seen();
+    let begun = seen(&session);
     let put = session.put(&[0x3c; 16], &mut output);
-    let register = session.seen().register;
+    let register = session.state().register;
     let abandon = session.abandon();
-    let abandoned = session.seen();
+    let abandoned = seen(&session);
     assert_eq!(rt;
         (begin, put, abandon, session.begin(6)),
         (Ok(()), Ok(2), Ok(2), Ok(()))
@@ -84,47 +86,55 @@ fn abandon_and_begin<K: Ends + Drop>(rt: &impl Abort, kind: K) -> Result<(), Fai
     assert_ne!(rt; register, 5, "the mode changes its register");
     assert_eq!(rt;
         new,
-        Seen {
-            register: 0,
-            used: 0,
-            files: 0,
-            blocks: 0,
-            running: false,
-            slip: None
-        }
+        (
+            State {
+                register: 0,
+                used: 0,
+                files: 0,
+                blocks: 0,
+                running: None,
+            },
+            None
+        )
     );
     assert_eq!(rt;
         begun,
-        Seen {
-            register: 5,
-            used: 0,
-            files: 1,
-            blocks: 0,
-            running: true,
-            slip: Some((7, 1))
-        }
+        (
+            State {
+                register: 5,
+                used: 0,
+                files: 1,
+                blocks: 0,
+                running: Some(1),
+            },
+            Some((7, 1))
+        )
     );
     assert_eq!(rt;
         abandoned,
-        Seen {
-            register,
-            used: 2,
-            files: 1,
-            blocks: 2,
-            running: false,
-            slip: None
-        }
+        (
+            State {
+                register,
+                used: 2,
+                files: 1,
+                blocks: 2,
+                running: None,
+            },
+            None
+        )
     );
     assert_eq!(rt;
-        session.seen(),
-        Seen {
-            register: 6,
-            used: 2,
-            files: 2,
-            blocks: 0,
-            running: true,
-            slip: Some((7, 2))
-        }
+        seen(&session),
+        (
+            State {
+                register: 6,
+                used: 2,
+                files: 2,
+                blocks: 0,
+                running: Some(2),
+            },
+            Some((7, 2))
+        )
     );
     Ok(())
 }

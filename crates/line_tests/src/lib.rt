@@ -15,6 +15,6 @@ mod pads;
 #[cfg(test)]
 mod refusals;
 #[cfg(test)]
-mod session;
+mod sessions;
 #[cfg(test)]
 mod vectors;

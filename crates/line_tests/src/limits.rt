@@ -1,9 +1,12 @@
 // The limits of a line: 65,535 files, and 1,048,576 blocks, the last of which only an end may use.
 use crate::ciphers::{KEY, misty1};
 use crate::refusals::{begin_refused, put_refused};
-use crate::session::{Ends, Session, begun};
-use line::kind::{Opening, Sealing};
+use crate::sessions::{begun, numbered, seen};
+use line::kind::{Kind, Opening, Sealing};
+use misty1::Misty1;
 use mode::ecb::Ecb;
+use session::Session;
+use session::ends::Ends;
 use std::alloc::Global;
 use std::process::Abort;
 use std::test::Fail;
@@ -11,19 +14,23 @@ use std::test::Fail;
 /// The bytes of 1,048,576 blocks.
 const ALL: usize = 8_388_608;
 
-fn begin_and_abandon<K: Ends + Drop>(rt: &impl Abort, session: &mut Session<K, Ecb>, files: u16) {
+fn begin_and_abandon<K: Kind + Drop>(
+    rt: &impl Abort,
+    session: &mut Session<K, Misty1, Ecb>,
+    files: u16,
+) {
     for _ in 0..files {
         assert_eq!(rt; session.begin(0), Ok(()));
         assert_eq!(rt; session.abandon(), Ok(0));
     }
-    assert_eq!(rt; session.seen().files, files);
+    assert_eq!(rt; session.state().files, files);
 }
 
-fn all_files<K: Ends + Drop>(rt: &impl Abort, kind: K) -> Result<(), Fail> {
+fn all_files<K: Kind + Drop>(rt: &impl Abort, kind: K) -> Result<(), Fail> {
     let mut session = Session::new(kind, misty1(KEY)?, Ecb, 7);
     begin_and_abandon(rt, &mut session, 65_534);
     assert_eq!(rt; session.begin(3), Ok(()));
-    assert_eq!(rt; session.seen().slip, Some((7, 65_535)));
+    assert_eq!(rt; session.slip(), Some((7, 65_535)));
     begin_refused(rt, &mut session, 11);
     assert_eq!(rt; session.abandon(), Ok(0));
     begin_refused(rt, &mut session, 13);
@@ -37,27 +44,25 @@ fn files_run_out(rt: HostRuntime) -> Result<(), Fail> {
 }
 
 /// Puts of too many blocks, where other causes hold too, and then of that one cause alone.
-fn too_many<K: Ends + Drop>(
+fn too_many<K: Kind + Drop>(
     rt: &impl Abort,
-    session: &mut Session<K, Ecb>,
+    session: &mut Session<K, Misty1, Ecb>,
     input: &[u8],
     output: &mut [u8],
 ) {
     assert!(rt; input.len() == ALL + 8);
-    let before = session.seen();
-    assert_eq!(rt; session.put(&input[0..ALL + 1], output), Err(22));
-    assert_eq!(rt; session.put(input, output), Err(23));
-    assert_eq!(rt; session.put(&input[0..ALL], output), Err(24));
-    assert_eq!(rt; session.seen(), before);
-    for byte in output.iter() {
-        assert!(rt; *byte == 0xa5);
-    }
+    let before = seen(session);
+    assert_eq!(rt; numbered(session.put(&input[0..ALL + 1], output)), Err(22));
+    assert_eq!(rt; numbered(session.put(input, output)), Err(23));
+    assert_eq!(rt; numbered(session.put(&input[0..ALL], output)), Err(24));
+    assert_eq!(rt; seen(session), before);
+    assert!(rt; output.iter().all(|byte| *byte == 0xa5));
 }
 
 /// Puts all the blocks of a line's key but the one that is kept for the end.
-fn put_all<K: Ends + Drop>(
+fn put_all<K: Kind + Drop>(
     rt: &impl Abort,
-    session: &mut Session<K, Ecb>,
+    session: &mut Session<K, Misty1, Ecb>,
     heap: Global,
 ) -> Result<(), Fail> {
     let input = vec![in heap; 0u8; ALL + 8]?;
@@ -71,7 +76,7 @@ fn put_all<K: Ends + Drop>(
 /// Uses all the blocks of a line's key up, and ends with the last one, which writes so many bytes.
 fn all_blocks<K: Ends + Drop>(
     rt: &impl Abort,
-    session: &mut Session<K, Ecb>,
+    session: &mut Session<K, Misty1, Ecb>,
     heap: Global,
     last: &[u8],
     written: usize,
@@ -79,7 +84,7 @@ fn all_blocks<K: Ends + Drop>(
     let mut output = [0; 8];
     assert_eq!(rt; session.begin(3), Ok(()));
     put_all(rt, session, heap)?;
-    assert_eq!(rt; session.seen().used, 1_048_575);
+    assert_eq!(rt; session.state().used, 1_048_575);
     put_refused(rt, session, &[0; 8], 8, 24);
     put_refused(rt, session, &[0; 8], 7, 23);
     put_refused(rt, session, &[0; 9], 24, 22);
@@ -90,7 +95,7 @@ fn all_blocks<K: Ends + Drop>(
     );
     begin_refused(rt, session, 11);
     assert_eq!(rt; session.end(last, &mut output), Ok((1_048_576, written)));
-    assert_eq!(rt; session.seen().used, 1_048_576);
+    assert_eq!(rt; session.state().used, 1_048_576);
     begin_refused(rt, session, 12);
     put_refused(rt, session, &[0; 8], 8, 21);
     Ok(())
@@ -118,7 +123,7 @@ fn retired_key_is_named_before_files(rt: HostRuntime) -> Result<(), Fail> {
     let mut session = Session::new(Sealing, misty1(KEY)?, Ecb, 7);
     begin_and_abandon(&rt, &mut session, 65_534);
     all_blocks(&rt, &mut session, rt.alloc(), &[1], 8)?;
-    assert_eq!(rt; session.seen().files, 65_535);
+    assert_eq!(rt; session.state().files, 65_535);
     Ok(())
 }
 

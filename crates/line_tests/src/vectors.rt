@@ -1,6 +1,5 @@
 // Vectors of MISTY1: those of RFC 2994, and others that an independent library gives, through both kinds of line.
 use crate::ciphers::{KEY, misty1};
-use crate::session::Session;
 use line::kind::{Opening, Sealing};
 use mode::Mode;
 use mode::cbc::Cbc;
@@ -8,6 +7,7 @@ use mode::cfb::Cfb;
 use mode::ctr::Ctr;
 use mode::ecb::Ecb;
 use mode::ofb::Ofb;
+use session::Session;
 use std::process::Abort;
 use std::test::Fail;
 
