@@ -12,6 +12,7 @@ pub fn from_bytes(bytes: [u8; 8]) -> u64
 }
 
 /// The eight bytes of a block.
+#[tactic(auto, unfolding(crate::specs::Block::bytes_of))]
 pub fn to_bytes(block: u64) -> [u8; 8]
     ensures { result ≡ bytes_of block }
 {
@@ -19,6 +20,7 @@ pub fn to_bytes(block: u64) -> [u8; 8]
 }
 
 /// The complement of a block: every bit flipped.
+#[tactic(auto, using(crate::proofs::Complement::flip_sum))]
 pub fn flip(block: u64) -> u64
     ensures { result ≡ complement block }
 {

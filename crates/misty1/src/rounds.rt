@@ -36,6 +36,7 @@ fn split(block: u64) -> State
 }
 
 /// The block of L and R.
+#[tactic(auto, using(crate::proofs::Words::join_code))]
 fn join(s: State) -> u64
     ensures { result ≡ joining s }
 {
@@ -59,6 +60,7 @@ impl Misty1 {
     }
 
     /// K'_i.
+    #[tactic(auto, using(crate::proofs::Words::subkey_at))]
     fn k_sub(&self, i: usize) -> u16
         requires { 1 ≤ i }
         ensures { result ≡ K' self.now.key i }

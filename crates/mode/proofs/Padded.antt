@@ -1,5 +1,5 @@
 -- The pad and the tail before it. Assumes nothing.
-use Rattle.std.proofs.Common.{◌≡◌, ℕ, zero, suc, ◌+◌, ◌-◌, ◌<◌, ◌≤◌, Bool, true, false, cond, eqb, ◌≢◌, ◌⊎◌, List, [], ◌∷◌, ◌++◌, length, get_or, take, set, replicate, Some, None, sym, refl, ap, ◌∙◌, subst, inl, inr, ⊎_elim, arith, lit<, ne_eqb, eqb-true}
+use Rattle.std.proofs.Common.{◌≡◌, ℕ, zero, suc, ◌+◌, ◌-◌, ◌<◌, ◌≤◌, Bool, true, false, cond, eqb, ltb, ◌≢◌, ◌⊎◌, List, [], ◌∷◌, ◌++◌, length, get_or, take, set, replicate, Some, None, sym, refl, ap, ◌∙◌, subst, inl, inr, ⊎_elim, arith, lit<, ltb-false, ltb-true, ne_eqb, eqb-true}
 use borrow.Rule.Slice.PartMut.{post_of}
 use Rattle.block.specs.Block.{AllBytes}
 use Rattle.block.proofs.Bytes.{all_append}
@@ -50,14 +50,48 @@ chosen : (b : Bool) (n : ℕ) → cond b (Some n) None ≡ then_some b n
 chosen true n = refl
 chosen false n = refl
 
+last_or_below : (k m : ℕ) → k < suc m → (k < m) ⊎ (k ≡ m)
+last_or_below k m h = elim (ltb k m) as (λ b. ltb k m ≡ b → (k < m) ⊎ (k ≡ m)) [ true ↦ λ e. inl (ltb-true k m e) | false ↦ λ e. inr (omega (arith, ltb-false k m e)) ] refl
+
+-- one turn of the search from the end, at the byte before n
 module _ (bytes : List ℕ) where
-  -- of n zeros there is no tail
-  pub tail_none : (n : ℕ) → ((k : ℕ) → k < n → get_or bytes k 0 ≡ 0) → tail_within bytes n ≡ None
+  pub tail_here : (n : ℕ) → 0 < n → get_or bytes (n - 1) 0 ≡ 0x80 → tail_within bytes n ≡ Some (n - 1)
   unfolding tail_within
-  tail_none zero zeros = refl
-  tail_none (suc n) zeros =
+  tail_here zero h e = absurd (omega arith)
+  tail_here (suc n) h e =
+      let back : suc n - 1 ≡ n = omega arith in
+      let here : get_or bytes n 0 ≡ 0x80 = rw back at e in
+      rw (here, back)
+
+  pub tail_on : (n : ℕ) → 0 < n → get_or bytes (n - 1) 0 ≡ 0 → tail_within bytes (n - 1) ≡ tail_within bytes n
+  unfolding tail_within
+  tail_on zero h e = absurd (omega arith)
+  tail_on (suc n) h e =
+      let back : suc n - 1 ≡ n = omega arith in
+      let here : get_or bytes n 0 ≡ 0 = rw back at e in
+      rw (here, back)
+
+  pub tail_none : (n : ℕ) → 0 < n → get_or bytes (n - 1) 0 ≢ 0x80 → get_or bytes (n - 1) 0 ≢ 0 → tail_within bytes n ≡ None
+  unfolding tail_within
+  tail_none zero h e f = absurd (omega arith)
+  tail_none (suc n) h e f =
+      let back : suc n - 1 ≡ n = omega arith in
+      let not-zero : eqb (get_or bytes n 0) 0 ≡ false = ne_eqb (get_or bytes n 0) 0 (rw back at f) in
+      let not-80 : eqb (get_or bytes n 0) 0x80 ≡ false = ne_eqb (get_or bytes n 0) 0x80 (rw back at e) in
+      rw (not-zero, not-80)
+
+  pub tail_nowhere : (n : ℕ) → n ≡ 0 → tail_within bytes n ≡ None
+  unfolding tail_within
+  tail_nowhere zero h = refl
+  tail_nowhere (suc n) h = absurd (omega arith)
+
+  -- of n zeros there is no tail
+  pub tail_of_zeros : (n : ℕ) → ((k : ℕ) → k < n → get_or bytes k 0 ≡ 0) → tail_within bytes n ≡ None
+  unfolding tail_within
+  tail_of_zeros zero zeros = refl
+  tail_of_zeros (suc n) zeros =
       let last : get_or bytes n 0 ≡ 0 = zeros n (omega arith) in
-      rw last (tail_none n (λ k h. zeros k (omega arith)))
+      rw last (tail_of_zeros n (λ k h. zeros k (omega arith)))
 
   -- the last byte that is not zero decides
   pub tail_last : (n at : ℕ) → at < n → get_or bytes at 0 ≢ 0 → ((k : ℕ) → at < k → k < n → get_or bytes k 0 ≡ 0)
@@ -66,14 +100,13 @@ module _ (bytes : List ℕ) where
   tail_last zero at h here zeros = absurd (omega arith)
   tail_last (suc n) at h here zeros =
       ⊎_elim
-      (λ (l : at < n).
+      (λ l.
       let last : get_or bytes n 0 ≡ 0 = zeros n l (omega arith) in
       rw last (tail_last n at l here (λ k a b. zeros k a (omega arith))))
-      (λ (l : n ≤ at).
-      let e : at ≡ n = omega arith in
+      (λ e.
       let last : eqb (get_or bytes n 0) 0 ≡ false = ne_eqb (get_or bytes n 0) 0 (subst (λ j. get_or bytes j 0 ≢ 0) e here) in
       rw (last, e) (chosen (eqb (get_or bytes n 0) 0x80) n))
-      (order at n)
+      (last_or_below at n h)
 
   -- where a tail ends: at byte 80, and with zeros behind it
   pub tail_found : (m n : ℕ) → tail_within bytes m ≡ Some n
@@ -91,7 +124,7 @@ module _ (bytes : List ℕ) where
       go ih true ea b eb =
           let on : tail_within bytes m ≡ Some n = rw ea at e in
           let (below, at, behind) = ih on in
-          (omega arith, at, λ k l h. ⊎_elim (λ q. behind k l q) (λ (q : m ≤ k). let e : k ≡ m = omega arith in ap (λ j. get_or bytes j 0) e ∙ eqb-true _ _ ea) (order k m))
+          (omega arith, at, λ k l h. ⊎_elim (λ q. behind k l q) (λ q. ap (λ j. get_or bytes j 0) q ∙ eqb-true _ _ ea) (last_or_below k m h))
       go ih false ea true eb =
           let on : Some m ≡ Some n = rw (ea, eb) at e in
           let same : m ≡ n = cc in

@@ -1,6 +1,7 @@
 // Modes of operation over any cipher, one file a mode, and the pad of a file's last block.
 #![tactic(auto)]
 
+// The modes differ in their steps alone, a line or two each: one generic mode would take these as its parameters and say no more.
 pub mod cbc;
 pub mod cfb;
 pub mod ctr;
