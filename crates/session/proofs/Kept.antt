@@ -91,7 +91,7 @@ module _ {K C M : Type 0} (opening : K → Bool) (steps : M → Steps) (meaning 
   unfolding after
   state_is c a o h = sym (ap (λ x. x.state) h.did)
 
-  answer_is : (c : Call) (a : Result Answer Refusal) (o : List ℕ) → Performs opening steps meaning old c a o new
+  pub answer_is : (c : Call) (a : Result Answer Refusal) (o : List ℕ) → Performs opening steps meaning old c a o new
       → outcome (refusal_to (params_of opening steps meaning old) (state_of old) c) (answer (number_of old) (opens_of opening old) (state_of old) (event_of (params_of opening steps meaning old) (state_of old) c)) ≡ a
   unfolding after
   answer_is c a o h = ap (λ x. x.answer) h.did

@@ -1,5 +1,5 @@
 // The calls of a session.
-ghost use Rattle.std.specs.Prelude.{◌≡◌, [], IfOk};
+ghost use Rattle.std.specs.Prelude.{◌≡◌, [], IfOk, IsSome};
 ghost use Rattle.line.specs.Laws.{Laws, writes};
 ghost use Rattle.line.specs.Model.Call.{Begin, Put, End, Abandon};
 ghost use Rattle.line.specs.Performs.{Performs, Made, taken};
@@ -16,6 +16,17 @@ use line::state::State;
 use mode::Mode;
 
 impl<K: Kind + Drop, C: Cipher + Drop, M: Mode + Drop> Session<K, C, M> {
+    /// A session over a line just made, on which no file runs.
+    pub fn new(kind: K, cipher: C, mode: M, number: u8) -> Self
+        ensures made { Made kind cipher mode number result.line }
+        ensures laws { Laws (K.Kind.opening kind) (C.Cipher.meaning cipher) (M.Mode.steps mode) number }
+    {
+        Session {
+            line: Line::new(kind, cipher, mode, number),
+            slip: None,
+        }
+    }
+
     /// Where the line stands.
     pub fn state(&self) -> State
         ensures { result ≡ state_of self.now.line }
@@ -39,23 +50,11 @@ impl<K: Kind + Drop, C: Cipher + Drop, M: Mode + Drop> Session<K, C, M> {
             None => None,
         }
     }
-}
-
-impl<K: Kind + Drop, C: Cipher + Drop, M: Mode + Drop> Session<K, C, M> {
-    /// A session over a line just made, on which no file runs.
-    pub fn new(kind: K, cipher: C, mode: M, number: u8) -> Self
-        ensures made { Made kind cipher mode number result.line }
-        ensures laws { Laws (K.Kind.opening kind) (C.Cipher.meaning cipher) (M.Mode.steps mode) number }
-    {
-        Session {
-            line: Line::new(kind, cipher, mode, number),
-            slip: None,
-        }
-    }
 
     /// Begins a file with its start value, and keeps its slip.
     pub fn begin(&mut self, start: u64) -> Result<(), Refusal>
-        ensures { Performs K.Kind.opening M.Mode.steps C.Cipher.meaning self.old.line (Begin start) (begun self.new.line result) [] self.new.line }
+        ensures did { Performs K.Kind.opening M.Mode.steps C.Cipher.meaning self.old.line (Begin start) (begun self.new.line result) [] self.new.line }
+        ensures runs { IfOk result (λ _. IsSome (owed self.new.line)) }
     {
         let slip = self.line.begin(start)?;
         match self.slip.replace(slip) {

@@ -1,11 +1,11 @@
 -- One turn of a loop over calls and their replies. Assumes nothing.
-use Rattle.std.proofs.Common.{◌≡◌, ℕ, List, [], ◌∷◌, ◌++◌, take, drop, Ok, Err, Result, sym, ap, ◌∙◌}
-use Rattle.std.proofs.lemmas.List.{append-nil, append_assoc}
+use Rattle.std.proofs.Common.{◌≡◌, ℕ, List, [], arith, ◌∷◌, ◌++◌, take, drop, Ok, Err, Result, sym, ap, ◌∙◌}
+use Rattle.std.proofs.lemmas.List.{append-nil, append_assoc, take-take}
 use Rattle.protocol.specs.declared.refusal.Refusal.{Refusal}
 use Rattle.line.specs.declared.request.Request.{Request}
 use Rattle.protocol.specs.declared.state.Answer.{Answer}
-use Rattle.line.specs.Replay.{input_size, output_size}
-use Rattle.walkthrough.specs.Second.{Replied, wrote, handed_on, second_calls, bytes_written, bytes_taken}
+use Rattle.line.specs.Replay.{input_size}
+use Rattle.walkthrough.specs.Second.{Replied, wrote, handed_on, second_calls, used_bytes, bytes_taken}
 
 -- what a part of a list adds to the front
 joined_on : {A : Type 0} (done done' part rest whole : List A) → done' ≡ done ++ part → part ++ rest ≡ whole → done' ++ rest ≡ done ++ whole
@@ -29,35 +29,25 @@ module _ (rest rest' : List Replied) (r : Request) (y : Result Answer Refusal) (
   unfolding second_calls
   calls_skip done e ey = ap (λ l. done ++ l) (sym (ap second_calls here ∙ ap (λ z. second_calls ((r, z) ∷ rest')) ey))
 
-  module _ (done out more : List ℕ) (n : ℕ) (size : n ≡ output_size r) (left : more ≡ drop n out) where
-    pub written_more : (done' lent part : List ℕ) (a : Answer) (k : ℕ)
-        → y ≡ Ok a → lent ≡ take n out → k ≡ wrote r a → part ≡ take k lent → done' ≡ done ++ part
-        → done' ++ bytes_written rest' more ≡ done ++ bytes_written rest out
-    unfolding bytes_written
-    written_more done' lent part a k ey el ek ep ed =
-        joined_on done done' part (bytes_written rest' more) (bytes_written rest out) ed
-        ((λ i. (ep ∙ (λ j. take (ek j) ((el ∙ ap (λ m. take m out) size) j))) i ++ bytes_written rest' ((left ∙ ap (λ m. drop m out) size) i))
-        ∙ sym (ap (λ l. bytes_written l out) here ∙ ap (λ z. bytes_written ((r, z) ∷ rest') out) ey))
+  module _ (size : Request → ℕ) (used : Request → Answer → ℕ) (done buffer more : List ℕ) (n : ℕ) (is_size : n ≡ size r) (left : more ≡ drop n buffer) where
+    pub used_more : (done' part out : List ℕ) (a : Answer) (k : ℕ)
+        → y ≡ Ok a → part ≡ take n buffer → k ≡ used r a → out ≡ take k part → done' ≡ done ++ out
+        → done' ++ used_bytes size used rest' more ≡ done ++ used_bytes size used rest buffer
+    unfolding used_bytes
+    used_more done' part out a k ey el ek ep ed =
+        joined_on done done' out (used_bytes size used rest' more) (used_bytes size used rest buffer) ed
+        ((λ i. (ep ∙ (λ j. take (ek j) ((el ∙ ap (λ m. take m buffer) is_size) j))) i ++ used_bytes size used rest' ((left ∙ ap (λ m. drop m buffer) is_size) i))
+        ∙ sym (ap (λ l. used_bytes size used l buffer) here ∙ ap (λ z. used_bytes size used ((r, z) ∷ rest') buffer) ey))
 
-    pub written_skip : (e : Refusal) → y ≡ Err e → done ++ bytes_written rest' more ≡ done ++ bytes_written rest out
-    unfolding bytes_written
-    written_skip e ey =
+    pub used_skip : (e : Refusal) → y ≡ Err e → done ++ used_bytes size used rest' more ≡ done ++ used_bytes size used rest buffer
+    unfolding used_bytes
+    used_skip e ey =
         ap (λ l. done ++ l)
-        (ap (bytes_written rest') (left ∙ ap (λ m. drop m out) size)
-        ∙ sym (ap (λ l. bytes_written l out) here ∙ ap (λ z. bytes_written ((r, z) ∷ rest') out) ey))
+        (ap (used_bytes size used rest') (left ∙ ap (λ m. drop m buffer) is_size)
+        ∙ sym (ap (λ l. used_bytes size used l buffer) here ∙ ap (λ z. used_bytes size used ((r, z) ∷ rest') buffer) ey))
 
-  module _ (done input more : List ℕ) (n : ℕ) (size : n ≡ input_size r) (left : more ≡ drop n input) where
-    pub taken_more : (done' part : List ℕ) (a : Answer) → y ≡ Ok a → part ≡ take n input → done' ≡ done ++ part
-        → done' ++ bytes_taken rest' more ≡ done ++ bytes_taken rest input
-    unfolding bytes_taken
-    taken_more done' part a ey ep ed =
-        joined_on done done' part (bytes_taken rest' more) (bytes_taken rest input) ed
-        ((λ i. (ep ∙ ap (λ m. take m input) size) i ++ bytes_taken rest' ((left ∙ ap (λ m. drop m input) size) i))
-        ∙ sym (ap (λ l. bytes_taken l input) here ∙ ap (λ z. bytes_taken ((r, z) ∷ rest') input) ey))
-
-    pub taken_skip : (e : Refusal) → y ≡ Err e → done ++ bytes_taken rest' more ≡ done ++ bytes_taken rest input
-    unfolding bytes_taken
-    taken_skip e ey =
-        ap (λ l. done ++ l)
-        (ap (bytes_taken rest') (left ∙ ap (λ m. drop m input) size)
-        ∙ sym (ap (λ l. bytes_taken l input) here ∙ ap (λ z. bytes_taken ((r, z) ∷ rest') input) ey))
+-- what a put or an end took is the whole of its part
+pub taken_is : (r : Request) (a : Answer) (ps : List Replied) (input : List ℕ)
+    → bytes_taken ((r, Ok a) ∷ ps) input ≡ take (input_size r) input ++ bytes_taken ps (drop (input_size r) input)
+unfolding used_bytes
+taken_is r a ps input = ap (λ l. l ++ bytes_taken ps (drop (input_size r) input)) (take-take (input_size r) (input_size r) input (omega arith))

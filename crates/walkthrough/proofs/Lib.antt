@@ -1,3 +1,3 @@
 pub mod Handed
 pub mod Pairs
-pub mod Slips
+pub mod Refused

@@ -32,14 +32,17 @@ second_calls [] = []
 second_calls ((r, Ok a) ∷ ps) = handed_on r (wrote r a) ∷ second_calls ps
 second_calls ((r, Err e) ∷ ps) = second_calls ps
 
--- What the accepted calls wrote, where the outputs of all the calls lie one after another.
-unfoldable pub bytes_written : List Replied → List ℕ → List ℕ
-bytes_written [] out = []
-bytes_written ((r, Ok a) ∷ ps) out = take (wrote r a) (take (output_size r) out) ++ bytes_written ps (drop (output_size r) out)
-bytes_written ((r, Err e) ∷ ps) out = bytes_written ps (drop (output_size r) out)
+-- What the accepted calls used of a buffer in which each call has its part, one after another: `size` of a call is the length of
+-- its part, and `used` how much of the part it used.
+unfoldable pub used_bytes : (Request → ℕ) → (Request → Answer → ℕ) → List Replied → List ℕ → List ℕ
+used_bytes size used [] buffer = []
+used_bytes size used ((r, Ok a) ∷ ps) buffer = take (used r a) (take (size r) buffer) ++ used_bytes size used ps (drop (size r) buffer)
+used_bytes size used ((r, Err e) ∷ ps) buffer = used_bytes size used ps (drop (size r) buffer)
+
+-- What they wrote, where the outputs of all the calls lie one after another.
+abbrev pub bytes_written : List Replied → List ℕ → List ℕ
+bytes_written = used_bytes output_size wrote
 
 -- And what they took, where the inputs lie so.
-unfoldable pub bytes_taken : List Replied → List ℕ → List ℕ
-bytes_taken [] input = []
-bytes_taken ((r, Ok a) ∷ ps) input = take (input_size r) input ++ bytes_taken ps (drop (input_size r) input)
-bytes_taken ((r, Err e) ∷ ps) input = bytes_taken ps (drop (input_size r) input)
+abbrev pub bytes_taken : List Replied → List ℕ → List ℕ
+bytes_taken = used_bytes input_size (λ r a. input_size r)

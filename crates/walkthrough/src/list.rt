@@ -1,17 +1,18 @@
 // A list of calls on a sealing line, and the list that undoes it on an opening line.
-ghost use Rattle.std.specs.Prelude.{◌≡◌, take, drop, IfOk, IfErr};
+ghost use Rattle.std.specs.Prelude.{◌≡◌, ℕ, take, drop, IfOk};
 ghost use Rattle.std.specs.List.{zip};
-ghost use Rattle.walkthrough.specs.Second.{wrote, handed_on as call_handed_on, second_calls as calls_handed_on, bytes_written as bytes_written_by, bytes_taken as bytes_taken_by};
-ghost use Rattle.walkthrough.specs.Unspent.{HasNoSlip};
+ghost use Rattle.line.specs.declared.request.Request.{Request};
+ghost use Rattle.protocol.specs.declared.state.Answer.{Answer};
+ghost use Rattle.line.specs.Replay.{input_size, output_size};
+ghost use Rattle.walkthrough.specs.Second.{wrote, handed_on as call_handed_on, second_calls as calls_handed_on, used_bytes as bytes_used, bytes_written as bytes_written_by, bytes_taken as bytes_taken_by};
 
-use crate::carry::{same_bytes, same_state};
 use crate::pay::{NUMBER, START};
 use crate::text::{Blocks, Call, Counts, Reply, word};
 use crate::trouble::Trouble;
-use line::kind::{Opening, Sealing};
+use line::kind::{Kind, Opening, Sealing};
 use line::refusal::Refusal;
 use line::replay::replay;
-use line::request::Request;
+use line::request::{Misfit, Request};
 use line::state::{Answer, State};
 use misty1::Misty1;
 use mode::cbc::Cbc;
@@ -108,153 +109,175 @@ fn handed_on(request: Request, length: usize) -> Request
     }
 }
 
-/// The second line's calls: one for each that the first line accepted, in order.
-fn second_calls(
-    heap: Global,
-    requests: &[Request],
-    replies: &[Result<Answer, Refusal>],
-) -> Result<Vec<Request>, AllocError>
-    ensures { IfOk result (λ v. v.items ≡ calls_handed_on (zip requests.now replies.now)) }
-{
-    let mut calls = Vec::new(heap);
-    for (request, reply) in requests.iter().zip(replies) {
-        if let Ok(answer) = reply {
-            calls.push(handed_on(*request, written(*request, *answer)))?;
-        }
-    }
-    Ok(calls)
+/// A buffer that the calls of a list share: each has the next part of it.
+trait Buffer {
+    ghost size: { Request → ℕ };
+
+    ghost used: { Request → Answer → ℕ };
+
+    /// How long a call's part is.
+    fn size(request: Request) -> usize
+        ensures { result ≡ size request };
+
+    /// How much of its part an accepted call takes or writes.
+    fn used(request: Request, answer: Answer) -> usize
+        ensures { result ≡ used request answer };
 }
 
-/// The bytes that the accepted calls wrote.
-fn bytes_written(
-    heap: Global,
-    requests: &[Request],
-    replies: &[Result<Answer, Refusal>],
-    outputs: &[u8],
-) -> Result<Vec<u8>, AllocError>
-    ensures { IfOk result (λ v. v.items ≡ bytes_written_by (zip requests.now replies.now) outputs.now) }
-{
-    let mut bytes = Vec::new(heap);
-    let mut rest = outputs;
-    for (request, reply) in requests.iter().zip(replies) {
-        let (lent, more) = cut(rest, request.output_size());
-        if let Ok(answer) = reply {
-            let (front, _) = cut(lent, written(*request, *answer));
-            bytes.extend_from_slice(front)?;
-        }
-        rest = more;
+/// The buffer that the calls are handed.
+struct Inputs;
+
+/// The buffer that they are lent.
+struct Outputs;
+
+impl Buffer for Inputs {
+    ghost size = { input_size };
+
+    ghost used = { λ request _. input_size request };
+
+    fn size(request: Request) -> usize {
+        request.input_size()
     }
-    Ok(bytes)
+
+    fn used(request: Request, _answer: Answer) -> usize {
+        request.input_size()
+    }
 }
 
-/// The bytes that the accepted calls took.
-fn bytes_taken(
-    heap: Global,
-    requests: &[Request],
-    replies: &[Result<Answer, Refusal>],
-    inputs: &[u8],
-) -> Result<Vec<u8>, AllocError>
-    ensures { IfOk result (λ v. v.items ≡ bytes_taken_by (zip requests.now replies.now) inputs.now) }
-{
-    let mut bytes = Vec::new(heap);
-    let mut rest = inputs;
-    for (request, reply) in requests.iter().zip(replies) {
-        let (input, more) = cut(rest, request.input_size());
-        if let Ok(_) = reply {
-            bytes.extend_from_slice(input)?;
-        }
-        rest = more;
+impl Buffer for Outputs {
+    ghost size = { output_size };
+
+    ghost used = { wrote };
+
+    fn size(request: Request) -> usize {
+        request.output_size()
     }
-    Ok(bytes)
+
+    fn used(request: Request, answer: Answer) -> usize {
+        written(request, answer)
+    }
 }
 
-/// Each call with its reply and its bytes, and where the list leaves the line.
-fn tell(
-    rt: &HostRuntime,
-    requests: &[Request],
-    replies: &[Result<Answer, Refusal>],
-    inputs: &[u8],
-    outputs: &[u8],
+/// A list of calls on a line just made: what they were handed, and what came of them.
+#[derive(Clone, Copy)]
+struct Run<'a> {
+    requests: &'a [Request],
+    inputs: &'a [u8],
+    outputs: [u8; 64],
+    replies: [Result<Answer, Refusal>; 10],
     left: State,
-) -> io::Result<()> {
-    let (mut unread, mut unwritten) = (inputs, outputs);
-    for (request, reply) in requests.iter().zip(replies) {
-        let (input, more_input) = cut(unread, request.input_size());
-        let (output, more_output) = cut(unwritten, request.output_size());
-        let (call, answer) = (Call(*request), Reply(*reply));
-        println!(rt; "  {call}: {answer}")?;
-        if !input.is_empty() {
-            let (input, output) = (Blocks(input, " "), Blocks(output, " "));
-            println!(rt; "    in   {input}\n    out  {output}")?;
-        }
-        (unread, unwritten) = (more_input, more_output);
+}
+
+impl<'a> Run<'a> {
+    fn new<K: Kind + Drop>(
+        kind: K,
+        cipher: Misty1,
+        requests: &'a [Request],
+        inputs: &'a [u8],
+    ) -> Result<Run<'a>, Misfit> {
+        let (mut outputs, mut replies) = ([UNTOUCHED; 64], [Err(Refusal::NothingRuns); 10]);
+        let left = replay(
+            kind,
+            cipher,
+            Cbc,
+            NUMBER,
+            requests,
+            inputs,
+            &mut outputs,
+            &mut replies,
+        )?;
+        Ok(Run {
+            requests,
+            inputs,
+            outputs,
+            replies,
+            left,
+        })
     }
-    let counts = Counts(left);
-    println!(rt; "  counts after the list: {counts}\n")
+
+    /// The second line's calls: one for each that this one accepted, in order.
+    fn second_calls(&self, heap: Global) -> Result<Vec<Request>, AllocError>
+        ensures { IfOk result (λ v. v.items ≡ calls_handed_on (zip self.now.requests.now self.now.replies)) }
+    {
+        let mut calls = Vec::new(heap);
+        for (request, reply) in self.requests.iter().zip(&self.replies) {
+            if let Ok(answer) = reply {
+                calls.push(handed_on(*request, written(*request, *answer)))?;
+            }
+        }
+        Ok(calls)
+    }
+
+    /// What the accepted calls used of a buffer.
+    fn used_bytes<B: Buffer>(&self, heap: Global, buffer: &[u8]) -> Result<Vec<u8>, AllocError>
+        ensures { IfOk result (λ v. v.items ≡ bytes_used B.size B.used (zip self.now.requests.now self.now.replies) buffer.now) }
+    {
+        let mut bytes = Vec::new(heap);
+        let mut rest = buffer;
+        for (request, reply) in self.requests.iter().zip(&self.replies) {
+            let (part, more) = cut(rest, B::size(*request));
+            if let Ok(answer) = reply {
+                let (used, _) = cut(part, B::used(*request, *answer));
+                bytes.extend_from_slice(used)?;
+            }
+            rest = more;
+        }
+        Ok(bytes)
+    }
+
+    /// The bytes that the accepted calls wrote.
+    fn bytes_written(&self, heap: Global) -> Result<Vec<u8>, AllocError>
+        ensures { IfOk result (λ v. v.items ≡ bytes_written_by (zip self.now.requests.now self.now.replies) self.now.outputs) }
+    {
+        self.used_bytes::<Outputs>(heap, &self.outputs)
+    }
+
+    /// The bytes that the accepted calls took.
+    fn bytes_taken(&self, heap: Global) -> Result<Vec<u8>, AllocError>
+        ensures { IfOk result (λ v. v.items ≡ bytes_taken_by (zip self.now.requests.now self.now.replies) self.now.inputs.now) }
+    {
+        self.used_bytes::<Inputs>(heap, self.inputs)
+    }
+
+    /// Each call with its reply and its bytes, and where the list leaves the line.
+    fn tell(&self, rt: &HostRuntime) -> io::Result<()> {
+        let (mut unread, mut unwritten) = (self.inputs, &self.outputs[..]);
+        for (request, reply) in self.requests.iter().zip(&self.replies) {
+            let (input, more_input) = cut(unread, request.input_size());
+            let (output, more_output) = cut(unwritten, request.output_size());
+            let (call, answer) = (Call(*request), Reply(*reply));
+            println!(rt; "  {call}: {answer}")?;
+            if !input.is_empty() {
+                let (input, output) = (Blocks(input, " "), Blocks(output, " "));
+                println!(rt; "    in   {input}\n    out  {output}")?;
+            }
+            (unread, unwritten) = (more_input, more_output);
+        }
+        let counts = Counts(self.left);
+        println!(rt; "  counts after the list: {counts}\n")
+    }
 }
 
 /// A list of calls on a sealing line, some of them refused, and the list that follows from it on an opening line.
-pub(crate) fn lists(rt: &HostRuntime, cipher: Misty1) -> Result<(), Trouble>
-    ensures { IfErr result HasNoSlip }
-{
+pub(crate) fn lists(rt: &HostRuntime, cipher: Misty1) -> Result<(), Trouble> {
     let heap = rt.alloc();
-    let (calls, inputs) = (CALLS, INPUTS);
-    let (mut outputs, mut replies) = ([UNTOUCHED; 64], [Err(Refusal::NothingRuns); 10]);
-    let left = replay(
-        Sealing,
-        cipher,
-        Cbc,
-        NUMBER,
-        &calls,
-        &inputs,
-        &mut outputs,
-        &mut replies,
-    )?;
+    let first = Run::new(Sealing, cipher, &CALLS, &INPUTS)?;
     println!(rt;
         "\n5. A list of calls, and the list that undoes it\n\n\
         Both lists are replayed in the mode cbc. Each byte of room holds {UNTOUCHED:02x} before the calls.\n\n\
         Sealing line {NUMBER}"
     )?;
-    tell(rt, &calls, &replies, &inputs, &outputs, left)?;
-    let second = second_calls(heap, &calls, &replies)?;
-    let sealed = bytes_written(heap, &calls, &replies, &outputs)?;
-    let plain = bytes_taken(heap, &calls, &replies, &inputs)?;
-    opening(rt, cipher, &second, &sealed, &plain, left)
-}
-
-/// The opening line's list, and what it restores.
-fn opening(
-    rt: &HostRuntime,
-    cipher: Misty1,
-    calls: &[Request],
-    sealed: &[u8],
-    plain: &[u8],
-    first: State,
-) -> Result<(), Trouble>
-    ensures { IfErr result HasNoSlip }
-{
-    let (mut outputs, mut replies) = ([UNTOUCHED; 64], [Err(Refusal::NothingRuns); 10]);
-    let left = replay(
-        Opening,
-        cipher,
-        Cbc,
-        NUMBER,
-        calls,
-        sealed,
-        &mut outputs,
-        &mut replies,
-    )?;
+    first.tell(rt)?;
+    let (calls, sealed) = (first.second_calls(heap)?, first.bytes_written(heap)?);
+    let second = Run::new(Opening, cipher, &calls, &sealed)?;
     println!(rt;
         "The second list has the calls that were accepted, with the same start values and slips,\n\
         and the bytes that they wrote.\n\n\
         Opening line {NUMBER}"
     )?;
-    tell(rt, calls, &replies, sealed, &outputs, left)?;
-    let opened = bytes_written(rt.alloc(), calls, &replies, &outputs)?;
-    let (back, alike) = (
-        word(same_bytes(&opened, plain)),
-        word(same_state(first, left)),
-    );
+    second.tell(rt)?;
+    let (opened, plain) = (second.bytes_written(heap)?, first.bytes_taken(heap)?);
+    let (back, alike) = (word(opened == plain), word(first.left == second.left));
     println!(rt;
         "Comparison\n\
         \x20 bytes written by the opening line equal the bytes taken by the sealing line: {back}\n\

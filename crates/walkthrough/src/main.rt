@@ -1,9 +1,6 @@
 // A pay file carried through the lines of the library from beginning to end, with a note for each step.
 #![tactic(auto)]
 
-ghost use Rattle.std.specs.Prelude.{IfErr};
-ghost use Rattle.walkthrough.specs.Unspent.{HasNoSlip};
-
 mod carry;
 mod list;
 mod pay;
@@ -23,9 +20,7 @@ use std::process::ExitCode;
 use trouble::Trouble;
 
 /// The pay file in all the modes.
-fn modes(rt: &HostRuntime, cipher: Misty1) -> Result<(), Trouble>
-    ensures { IfErr result HasNoSlip }
-{
+fn modes(rt: &HostRuntime, cipher: Misty1) -> Result<(), Trouble> {
     println!(rt;
         "\n2. Through both lines in the mode cbc, call by call\n\n\
         cbc: each block is combined with the sealed block before it, and then enciphered.\n\
@@ -56,9 +51,7 @@ fn modes(rt: &HostRuntime, cipher: Misty1) -> Result<(), Trouble>
 }
 
 /// All the notes.
-fn walk(rt: &HostRuntime) -> Result<(), Trouble>
-    ensures { IfErr result HasNoSlip }
-{
+fn walk(rt: &HostRuntime) -> Result<(), Trouble> {
     let cipher = Misty1::new(&KEY)?;
     tell::heading(rt)?;
     modes(rt, cipher)?;
@@ -70,9 +63,7 @@ fn main(rt: HostRuntime) -> ExitCode {
     match walk(&rt) {
         Ok(()) => ExitCode::SUCCESS,
         Err(trouble) => {
-            let why = trouble.text();
-            let _ = eprintln!(rt; "walkthrough: {why}");
-            trouble.let_go();
+            let _ = eprintln!(rt; "walkthrough: {trouble}");
             ExitCode::FAILURE
         }
     }

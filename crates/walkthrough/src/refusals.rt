@@ -1,19 +1,18 @@
 // Calls that are refused.
-ghost use Rattle.std.specs.Prelude.{◌≡◌, ◌≢◌, true, Some, IfOk, IfErr};
-ghost use Rattle.line.specs.Holds.{holds};
-ghost use Rattle.line.specs.declared.slip.Slip.{Slip};
-ghost use Rattle.walkthrough.specs.Unspent.{HasNoSlip};
+ghost use Rattle.std.specs.Prelude.{◌≡◌, ◌↔◌, true, Some, IfOk};
+ghost use Rattle.std.specs.Result.{result_err};
+ghost use Rattle.protocol.specs.declared.refusal.Refusal.TheVariants.{PutWhileIdle, NotWholeBlocks, AlreadyRunning, ForeignSlip};
 
-use crate::carry::{same_state, seal};
-use crate::pay::{FILE, KEY, NUMBER, START};
+use crate::carry::pass;
+use crate::pay::{BODY, FILE, KEY, NUMBER, START};
 use crate::text::word;
-use crate::trouble::{Trouble, give_up};
-use line::Line;
-use line::kind::{Kind, Opening, Sealing};
-use line::slip::{Returned, Slip};
+use crate::trouble::Trouble;
+use line::kind::{Opening, Sealing};
+use line::refusal::Refusal;
 use line::state::State;
 use misty1::Misty1;
 use mode::cbc::Cbc;
+use session::Session;
 use std::{fmt, io};
 
 /// The number of the line whose slip is foreign.
@@ -22,17 +21,20 @@ const OTHER: u8 = 8;
 /// What came of a call that ought to be refused.
 #[derive(Clone, Copy)]
 struct Attempt {
-    /// The number of the refusal; none where the call was accepted.
-    refused: Option<u8>,
+    /// Why it was refused; none where the call was accepted.
+    refused: Option<Refusal>,
     /// Whether register, counts and running file are as they were.
     unchanged: bool,
 }
 
 impl Attempt {
-    fn new<K: Kind>(refused: Option<u8>, before: State, line: &Line<K, Misty1, Cbc>) -> Attempt {
+    fn new<A: Drop>(before: State, answer: Result<A, Refusal>, after: State) -> Attempt
+        ensures refused { result.refused ≡ result_err answer }
+        ensures unchanged { result.unchanged ≡ true → before ≡ after }
+    {
         Attempt {
-            refused,
-            unchanged: same_state(before, line.state()),
+            refused: answer.err(),
+            unchanged: before == after,
         }
     }
 }
@@ -41,104 +43,85 @@ impl fmt::Display for Attempt {
     fn fmt<W: fmt::Write>(&self, f: &mut fmt::Formatter<W>) -> fmt::Result {
         let unchanged = word(self.unchanged);
         match self.refused {
-            Some(number) => write!(f, "refused {number}; counts unchanged: {unchanged}"),
+            Some(refusal) => {
+                let number = refusal.number();
+                write!(f, "refused {number}; counts unchanged: {unchanged}")
+            }
             None => f.write_str("accepted"),
         }
     }
 }
 
-/// Puts bytes.
-fn put(line: &mut Line<Sealing, Misty1, Cbc>, input: &[u8]) -> Attempt
-    ensures slip { (s : Slip) → holds line.old (Some s) ≡ true → holds line.new (Some s) ≡ true }
-    ensures number { line.new.number ≡ line.old.number }
+/// The attempts on a sealing line.
+#[derive(Clone, Copy)]
+struct SealingAttempts {
+    /// A put while no file runs.
+    idle: Attempt,
+    /// The numbers of the slip of the file that then runs.
+    slip: (u8, u16),
+    /// A put of 9 bytes.
+    odd: Attempt,
+    /// Another begin.
+    again: Attempt,
+    /// An end with the slip of another line.
+    foreign: Attempt,
+}
+
+/// Tries what a sealing line refuses, and then abandons its file and that of the other line.
+fn try_sealing(cipher: Misty1) -> Result<SealingAttempts, Trouble>
+    ensures idle { IfOk result (λ a. a.idle.refused ≡ Some PutWhileIdle) }
+    ensures odd { IfOk result (λ a. a.odd.refused ≡ Some NotWholeBlocks) }
+    ensures again { IfOk result (λ a. a.again.refused ≡ Some AlreadyRunning) }
+    ensures foreign { IfOk result (λ a. a.foreign.refused ≡ Some ForeignSlip) }
 {
-    let before = line.state();
     let mut output = [0; 16];
-    let refused = match line.put(input, &mut output) {
-        Ok(_) => None,
-        Err(refusal) => Some(refusal.number()),
-    };
-    Attempt::new(refused, before, line)
-}
-
-/// Begins, puts 9 bytes and begins again: the last two are refused.
-fn while_running(line: &mut Line<Sealing, Misty1, Cbc>) -> Result<(Slip, [Attempt; 2]), Trouble>
-    ensures slip { IfOk result (λ begun. holds line.new (Some begun.0) ≡ true) }
-    ensures number { line.new.number ≡ line.old.number }
-    ensures err { IfErr result HasNoSlip }
-{
-    let file = FILE;
-    let slip = line.begin(START)?;
-    let odd = put(line, &file[0..9]);
-    let before = line.state();
-    match line.begin(START) {
-        Ok(second) => Err(Trouble::BegunTwice(slip, second)),
-        Err(refusal) => {
-            let again = Attempt::new(Some(refusal.number()), before, line);
-            Ok((slip, [odd, again]))
-        }
-    }
-}
-
-/// Ends a line's file with the slip of another line, which is refused, and then abandons the file of each with its own slip.
-fn foreign_slip(
-    line: &mut Line<Sealing, Misty1, Cbc>,
-    own: Slip,
-    other: &mut Line<Sealing, Misty1, Cbc>,
-) -> Result<Attempt, Trouble>
-    ensures { holds line.old (Some own) ≡ true → line.old.number ≢ other.old.number → IfErr result HasNoSlip }
-{
-    let mut output = [0; 8];
-    let before = line.state();
-    let foreign = match other.begin(START) {
-        Ok(slip) => slip,
-        Err(refusal) => return Err(give_up(line, own, refusal)),
-    };
-    match line.end(foreign, b"58\n", &mut output) {
-        Ok(_) => match line.abandon(own) {
-            Ok(_) => Ok(Attempt::new(None, before, line)),
-            Err(back) => Err(Trouble::Unspent(back)),
-        },
-        Err(Returned { slip, refusal }) => {
-            let attempt = Attempt::new(Some(refusal.number()), before, line);
-            match (other.abandon(slip), line.abandon(own)) {
-                (Ok(_), Ok(_)) => Ok(attempt),
-                (Err(back), Ok(_)) | (Ok(_), Err(back)) => Err(Trouble::Unspent(back)),
-                (Err(first), Err(second)) => Err(Trouble::BothUnspent(first, second)),
-            }
-        }
-    }
+    let mut session = Session::new(Sealing, cipher, Cbc, NUMBER);
+    let mut other = Session::new(Sealing, cipher, Cbc, OTHER);
+    let new = session.state();
+    let idle = session.put(&FILE[0..8], &mut output);
+    let idle = Attempt::new(new, idle, session.state());
+    session.begin(START)?;
+    other.begin(START)?;
+    let (slip, begun) = (session.slip().unwrap(), session.state());
+    let odd = session.put(&FILE[0..9], &mut output);
+    let odd = Attempt::new(begun, odd, session.state());
+    let again = session.begin(START);
+    let again = Attempt::new(begun, again, session.state());
+    let foreign = session.end_by(&mut other, b"58\n", &mut output).unwrap();
+    let foreign = Attempt::new(begun, foreign, session.state());
+    other.abandon()?;
+    session.abandon()?;
+    Ok(SealingAttempts {
+        idle,
+        slip,
+        odd,
+        again,
+        foreign,
+    })
 }
 
 /// Ends an opening line's file with a block that has no pad, which is refused, and then abandons the file.
-fn no_pad(line: &mut Line<Opening, Misty1, Cbc>, block: &[u8]) -> Result<Attempt, Trouble>
-    ensures { IfErr result HasNoSlip }
-{
-    let mut output = [0; 8];
-    let slip = line.begin(START)?;
-    let before = line.state();
-    match line.end(slip, block, &mut output) {
-        Ok(_) => Ok(Attempt::new(None, before, line)),
-        Err(Returned { slip, refusal }) => {
-            let attempt = Attempt::new(Some(refusal.number()), before, line);
-            match line.abandon(slip) {
-                Ok(_) => Ok(attempt),
-                Err(back) => Err(Trouble::Unspent(back)),
-            }
-        }
+fn no_pad(cipher: Misty1, block: &[u8]) -> Result<Attempt, Trouble> {
+    let mut session = Session::new(Opening, cipher, Cbc, NUMBER);
+    session.begin(START)?;
+    let begun = session.state();
+    let end = session.end(block, &mut [0; 8]);
+    let attempt = Attempt::new(begun, end, session.state());
+    if attempt.refused.is_some() {
+        session.abandon()?;
     }
+    Ok(attempt)
 }
 
 /// The refusals of a sealing line.
-fn sealing(rt: &HostRuntime, cipher: Misty1) -> Result<(), Trouble>
-    ensures { IfErr result HasNoSlip }
-{
-    let bytes = FILE;
-    let mut line = Line::new(Sealing, cipher, Cbc, NUMBER);
-    let idle = put(&mut line, &bytes[0..8]);
-    let (slip, [odd, again]) = while_running(&mut line)?;
-    let (own, file) = (slip.line(), slip.file());
-    let foreign = foreign_slip(&mut line, slip, &mut Line::new(Sealing, cipher, Cbc, OTHER))?;
+fn sealing(rt: &HostRuntime, cipher: Misty1) -> Result<(), Trouble> {
+    let SealingAttempts {
+        idle,
+        slip: (own, file),
+        odd,
+        again,
+        foreign,
+    } = try_sealing(cipher)?;
     println!(rt;
         "Sealing line {NUMBER}, mode cbc\n\
         \x20 put 8 bytes while no file runs: {idle}\n\
@@ -153,14 +136,11 @@ fn sealing(rt: &HostRuntime, cipher: Misty1) -> Result<(), Trouble>
 }
 
 /// The refusal of an opening line.
-fn opening(rt: &HostRuntime, cipher: Misty1) -> Result<(), Trouble>
-    ensures { IfErr result HasNoSlip }
-{
-    let (body, _) = seal(&mut Line::new(Sealing, cipher, Cbc, NUMBER))?;
-    let attempt = no_pad(
-        &mut Line::new(Opening, cipher, Cbc, NUMBER),
-        &body.bytes[0..8],
-    )?;
+fn opening(rt: &HostRuntime, cipher: Misty1) -> Result<(), Trouble> {
+    let (whole, tail) = FILE.split_at(BODY);
+    let sealing = Session::new(Sealing, cipher, Cbc, NUMBER);
+    let sealed = pass(rt.alloc(), sealing, whole, tail)?;
+    let attempt = no_pad(cipher, &sealed.body[0..8])?;
     println!(rt;
         "Opening line {NUMBER}, mode cbc\n\
         \x20 end with the first block of the sealed pay file, which has no pad: {attempt}\n\
@@ -171,8 +151,7 @@ fn opening(rt: &HostRuntime, cipher: Misty1) -> Result<(), Trouble>
 
 /// A key that is too short.
 fn short_key(rt: &HostRuntime) -> io::Result<()> {
-    let key = KEY;
-    match Misty1::new(&key[0..15]) {
+    match Misty1::new(&KEY[0..15]) {
         Ok(_) => println!(rt; "MISTY1\n  a key of 15 bytes: accepted"),
         Err(refused) => {
             let number = refused.number();
@@ -184,9 +163,7 @@ fn short_key(rt: &HostRuntime) -> io::Result<()> {
 }
 
 /// Calls that are refused, and what they leave.
-pub(crate) fn refusals(rt: &HostRuntime, cipher: Misty1) -> Result<(), Trouble>
-    ensures { IfErr result HasNoSlip }
-{
+pub(crate) fn refusals(rt: &HostRuntime, cipher: Misty1) -> Result<(), Trouble> {
     println!(rt;
         "\n4. Calls that are refused\n\nA refused call answers a number and changes nothing.\n"
     )?;

@@ -1,8 +1,5 @@
 // The notes on the pay file and on its way through both lines.
-ghost use Rattle.std.specs.Prelude.{IfErr};
-ghost use Rattle.walkthrough.specs.Unspent.{HasNoSlip};
-
-use crate::carry::{Body, Carried, carry};
+use crate::carry::{Carried, Passage, carry};
 use crate::pay::{BODY, FILE, KEY, NUMBER, START};
 use crate::text::{Blocks, Counts, Hex, Text, word};
 use crate::trouble::Trouble;
@@ -15,9 +12,9 @@ const BELOW: &str = "\n             ";
 
 /// What is carried, and with what.
 pub(crate) fn heading(rt: &HostRuntime) -> io::Result<()> {
-    let (key, file) = (KEY, FILE);
-    let (key, text, length) = (Hex(&key), Text(&file), file.len());
-    let (body, tail) = (Blocks(&file[0..BODY], BELOW), Hex(&file[BODY..43]));
+    let (key, text, length) = (Hex(&KEY), Text(&FILE), FILE.len());
+    let (body, tail) = FILE.split_at(BODY);
+    let (body, tail) = (Blocks(body, BELOW), Hex(tail));
     println!(rt;
         "1. The pay file\n\n\
         One pay file is sealed by a sealing line and opened by an opening line.\n\
@@ -32,15 +29,15 @@ pub(crate) fn heading(rt: &HostRuntime) -> io::Result<()> {
 }
 
 /// The begin and the put of a file.
-fn body(rt: &HostRuntime, input: &[u8], body: &Body) -> io::Result<()> {
-    let (line, file) = body.slip;
+fn body(rt: &HostRuntime, input: &[u8], passage: &Passage) -> io::Result<()> {
+    let (line, file) = passage.slip;
     let (begun, put, taken, length) = (
-        Counts(body.begun),
-        Counts(body.put),
-        body.taken,
+        Counts(passage.begun),
+        Counts(passage.put),
+        passage.taken,
         input.len(),
     );
-    let (input, output) = (Blocks(input, BELOW), Blocks(&body.bytes, BELOW));
+    let (input, output) = (Blocks(input, BELOW), Blocks(&passage.body, BELOW));
     println!(rt;
         "  begin with start value {START:016x}\n\
         \x20   answer   slip ({line}, {file}): line {line}, file {file}\n\
@@ -55,16 +52,16 @@ fn body(rt: &HostRuntime, input: &[u8], body: &Body) -> io::Result<()> {
 
 /// The sealing line's calls.
 fn sealing(rt: &HostRuntime, carried: &Carried) -> io::Result<()> {
-    let file = FILE;
-    let last = &carried.sealed.1;
+    let sealed = &carried.sealed;
+    let (whole, tail) = FILE.split_at(BODY);
     let (tail, output, blocks, ended) = (
-        Hex(&file[BODY..43]),
-        Hex(last.bytes()),
-        last.blocks,
-        Counts(last.ended),
+        Hex(tail),
+        Hex(&sealed.last),
+        sealed.blocks,
+        Counts(sealed.ended),
     );
     println!(rt; "Sealing line {NUMBER}")?;
-    body(rt, &file[0..BODY], &carried.sealed.0)?;
+    body(rt, whole, sealed)?;
     println!(rt;
         "  end with the slip and the tail, to which the line adds a pad: byte 80, and zero bytes up to 8\n\
         \x20   in       {tail}\n\
@@ -76,16 +73,16 @@ fn sealing(rt: &HostRuntime, carried: &Carried) -> io::Result<()> {
 
 /// The opening line's calls.
 fn opening(rt: &HostRuntime, carried: &Carried) -> io::Result<()> {
-    let last = &carried.opened.1;
+    let Carried { sealed, opened } = carried;
     let (input, output, blocks, ended) = (
-        Hex(carried.sealed.1.bytes()),
-        Hex(last.bytes()),
-        last.blocks,
-        Counts(last.ended),
+        Hex(&sealed.last),
+        Hex(&opened.last),
+        opened.blocks,
+        Counts(opened.ended),
     );
-    let tail = last.bytes().len();
+    let tail = opened.last.len();
     println!(rt; "Opening line {NUMBER}")?;
-    body(rt, &carried.sealed.0.bytes, &carried.opened.0)?;
+    body(rt, &sealed.body, opened)?;
     println!(rt;
         "  end with the slip and the last sealed block, from which the line takes the pad\n\
         \x20   in       {input}\n\
@@ -97,8 +94,8 @@ fn opening(rt: &HostRuntime, carried: &Carried) -> io::Result<()> {
 
 /// Whether the file came back, and whether the lines stood alike.
 fn comparison(rt: &HostRuntime, carried: &Carried) -> io::Result<()> {
-    let file = FILE;
-    let back = word(carried.opened_to(&file[0..BODY], &file[BODY..43]));
+    let (whole, tail) = FILE.split_at(BODY);
+    let back = word(carried.opened_to(whole, tail));
     let alike = word(carried.stood_alike());
     println!(rt;
         "  opened bytes equal the plain bytes: {back}\n\
@@ -111,10 +108,8 @@ pub(crate) fn in_full<M: Mode + Copy>(
     rt: &HostRuntime,
     cipher: Misty1,
     mode: M,
-) -> Result<(), Trouble>
-    ensures { IfErr result HasNoSlip }
-{
-    let carried = carry(cipher, mode)?;
+) -> Result<(), Trouble> {
+    let carried = carry(rt.alloc(), cipher, mode)?;
     sealing(rt, &carried)?;
     opening(rt, &carried)?;
     println!(rt; "Comparison")?;
@@ -128,10 +123,8 @@ pub(crate) fn in_short<M: Mode + Copy>(
     cipher: Misty1,
     name: &str,
     mode: M,
-) -> Result<(), Trouble>
-    ensures { IfErr result HasNoSlip }
-{
-    let carried = carry(cipher, mode)?;
+) -> Result<(), Trouble> {
+    let carried = carry(rt.alloc(), cipher, mode)?;
     println!(rt; "\n{name}")?;
     summary(rt, &carried)?;
     comparison(rt, &carried)?;
@@ -140,16 +133,14 @@ pub(crate) fn in_short<M: Mode + Copy>(
 
 /// The sealed blocks, and where both lines stand after the end.
 fn summary(rt: &HostRuntime, carried: &Carried) -> io::Result<()> {
-    let (line, file) = carried.sealed.0.slip;
-    let (body, last) = (
-        Blocks(&carried.sealed.0.bytes, " "),
-        Hex(carried.sealed.1.bytes()),
+    let Carried { sealed, opened } = carried;
+    let ((line, file), taken) = (sealed.slip, sealed.taken);
+    let (body, last, tail) = (
+        Blocks(&sealed.body, " "),
+        Hex(&sealed.last),
+        opened.last.len(),
     );
-    let (sealed, opened) = (
-        Counts(carried.sealed.1.ended),
-        Counts(carried.opened.1.ended),
-    );
-    let (taken, tail) = (carried.sealed.0.taken, carried.opened.1.bytes().len());
+    let (sealed, opened) = (Counts(sealed.ended), Counts(opened.ended));
     println!(rt;
         "  slip ({line}, {file}), blocks taken {taken}, bytes of the opened tail {tail}\n\
         \x20 sealed blocks {body} {last}\n\

@@ -1,4 +1,4 @@
-use Rattle.std.proofs.Common.{sym, ap, ◌∙◌}
+use Rattle.std.proofs.Common.{is_some, sym, ap, ◌∙◌}
 use Rattle.std.specs.Option.{option_map}
 use Rattle.session.specs.Slips.{numbers}
 use Rattle.session.proofs.Kept.{begin_owed, refused_owed, no_slip}
@@ -15,3 +15,7 @@ pub unreachable-requires : goal.unreachable-requires
 unreachable-requires g c =
     no_slip c.args.self.now.line c.args.self.now.slip c.in-Some.field-0 c.args.self.now.kept
     (begin_owed _ _ _ c.args.self.now.line c.begin.new.self _ c.in_ok-slip.slip _ c.in_ok-slip.ensures).1 (sym c.replace.ensures.value ∙ c.in-Some.is)
+
+pub returns-clause-runs : goal.returns-clause-runs
+returns-clause-runs g c =
+    ap is_some (sym (begin_owed _ _ _ c.args.self.now.line c.begin.new.self _ c.in_ok-slip.slip _ c.in_ok-slip.ensures).0)

@@ -2,7 +2,7 @@ use Rattle.std.proofs.Common.{vec_items, refl, ◌∙◌}
 use Rattle.walkthrough.proofs.Pairs.{pairs_rest, pairs_rest_more, pairs_rest_all}
 use Rattle.walkthrough.specs.Second.{second_calls}
 use Rattle.walkthrough.proofs.Handed.{calls_more, calls_skip, all_done}
-use Rattle.walkthrough.proofs.list.second_calls.Goals as goal
+use Rattle.walkthrough.proofs.list.Run.second_calls.Goals as goal
 
 pub loop-request-preserved-in-Continue-1 : goal.loop-request-preserved-in-Continue-1
 loop-request-preserved-in-Continue-1 c =
