@@ -8,7 +8,8 @@ use Rattle.line.specs.declared.Line.{Line}
 use Rattle.cipher.specs.Meaning.{Meaning}
 use Rattle.mode.specs.Steps.{Steps}
 use Rattle.protocol.specs.declared.state.Answer.TheVariants.{Begun, Taken, Sealed, Opened, Abandoned}
-use Rattle.line.specs.Performs.{Performs, params_of}
+use Rattle.line.specs.declared.slip.Slip.{Slip}
+use Rattle.line.specs.Performs.{Performs, params_of, settled}
 use Rattle.stream.specs.declared.last.Last.{Last}
 use Rattle.protocol.specs.declared.state.Event.TheVariants as event
 use Rattle.protocol.specs.Rules.{refusal, answer, opened_tail, next, outcome, unless, with_register}
@@ -122,6 +123,11 @@ answered p s c s' a o e = go (refusal_to p s c) refl
     go (Some r) q =
         let bad : Err r ≡ Ok a = rw q at ea in
         absurd (let z : ◌≡◌ {A = ℕ} 0 1 = cc in omega arith)
+
+-- what was accepted, from a slip that was spent
+pub settled_ok : (slip : Slip) (d : Result Answer Refusal) (a : Answer) → Ok a ≡ settled slip d → d ≡ Ok a
+settled_ok slip (Ok b) a e = cc
+settled_ok slip (Err r) a e = absurd (let z : ◌≡◌ {A = ℕ} 0 1 = cc in omega arith)
 
 -- a call as the contracts say it
 module _ {K C M : Type 0} (opening : K → Bool) (steps : M → Steps) (meaning : C → Meaning) where

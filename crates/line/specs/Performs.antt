@@ -54,3 +54,8 @@ abandoned (Err back) = Err back.refusal
 abbrev pub HandsBack : {A : Type 0} → Slip → Result A Returned → Type 0
 HandsBack slip (Ok a) = Unit {0}
 HandsBack slip (Err back) = back.slip ≡ slip
+
+-- The slip is spent by a call that was accepted, and handed back by one that was refused.
+abbrev pub settled : Slip → Result Answer Refusal → Result Answer Returned
+settled slip (Ok a) = Ok a
+settled slip (Err r) = Err (record { slip = slip; refusal = r })

@@ -50,12 +50,8 @@ impl<K: Kind, C: Cipher, M: Mode> Line<K, C, M> {
         ensures did { Performs K.Kind.opening M.Mode.steps C.Cipher.meaning self.old (Abandon slip.line slip.file) (abandoned result) [] self.new }
         ensures slip { HandsBack slip result }
     {
-        match self.abandon_step(slip.line, slip.file) {
-            Ok(_) => {
-                slip.spend();
-                Ok(self.blocks())
-            }
-            Err(refusal) => Err(Returned { slip, refusal }),
-        }
+        let decided = self.abandon_step(slip.line, slip.file);
+        slip.settle(decided)?;
+        Ok(self.blocks())
     }
 }

@@ -20,12 +20,8 @@ impl<C: Cipher, M: Mode> Line<Opening, C, M> {
         ensures did { Performs (λ _. true) M.Mode.steps C.Cipher.meaning self.old (End slip.line slip.file last.now output.old) (opened result) output.new self.new }
         ensures slip { HandsBack slip result }
     {
-        match self.end_step(slip.line, slip.file, last, output) {
-            Ok(answer) => {
-                slip.spend();
-                Ok((self.blocks(), answer.tail()))
-            }
-            Err(refusal) => Err(Returned { slip, refusal }),
-        }
+        let decided = self.end_step(slip.line, slip.file, last, output);
+        let answer = slip.settle(decided)?;
+        Ok((self.blocks(), answer.tail()))
     }
 }

@@ -16,12 +16,8 @@ impl<C: Cipher, M: Mode> Line<Sealing, C, M> {
         ensures did { Performs (λ _. false) M.Mode.steps C.Cipher.meaning self.old (End slip.line slip.file tail.now output.old) (sealed result) output.new self.new }
         ensures slip { HandsBack slip result }
     {
-        match self.end_step(slip.line, slip.file, tail, output) {
-            Ok(_) => {
-                slip.spend();
-                Ok(self.blocks())
-            }
-            Err(refusal) => Err(Returned { slip, refusal }),
-        }
+        let decided = self.end_step(slip.line, slip.file, tail, output);
+        slip.settle(decided)?;
+        Ok(self.blocks())
     }
 }

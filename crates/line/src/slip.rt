@@ -2,6 +2,7 @@
 ghost use Rattle.std.specs.Prelude.{◌≡◌};
 
 use crate::refusal::Refusal;
+use crate::state::Answer;
 
 /// A begun file owes its end or its abandoning, and its slip is the token of that debt: only an accepted begin makes one, and
 /// only an accepted end or abandon spends it. It can be neither copied, dropped nor forged.
@@ -11,6 +12,8 @@ pub struct Slip {
 }
 
 impl Slip {
+    ghost use Rattle.line.specs.Performs.{settled};
+
     /// The number of the line that made it.
     pub fn line(&self) -> u8
         ensures { result ≡ self.now.line }
@@ -25,9 +28,20 @@ impl Slip {
         self.file
     }
 
-    /// Spends the slip of a file that was ended or abandoned.
-    pub(crate) fn spend(self) {
-        let Slip { line: _, file: _ } = self;
+    /// What an end or an abandoning answers: the slip is spent where it was accepted, and handed back where it was refused.
+    pub(crate) fn settle(self, decided: Result<Answer, Refusal>) -> Result<Answer, Returned>
+        ensures { result ≡ settled self decided }
+    {
+        match decided {
+            Ok(answer) => {
+                let Slip { line: _, file: _ } = self;
+                Ok(answer)
+            }
+            Err(refusal) => Err(Returned {
+                slip: self,
+                refusal,
+            }),
+        }
     }
 }
 
