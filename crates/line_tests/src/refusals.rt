@@ -1,5 +1,5 @@
 // Every refusal of a call that needs no long run, and which one wins where several causes hold. A refused call changes nothing.
-// Where a test checks a length of its table, that is for the proof: the part then lies within its array.
+// Where a test checks the room of its table, that is for the proof: the part then lies within its array.
 use crate::ciphers::{KEY, misty1};
 use crate::sessions::{begun, numbered, seen};
 use line::kind::{Kind, Opening, Sealing};
@@ -63,21 +63,25 @@ pub(crate) fn begin_refused<K: Kind + Drop, M: Mode + Drop>(
 fn puts<K: Kind + Drop>(rt: &impl Abort, kind: K) -> Result<(), Fail> {
     let input = [0x3c; 24];
     let mut session = Session::new(kind, misty1(KEY)?, Ecb, 7);
-    for (length, room) in [(8usize, 8usize), (0, 0), (9, 24), (9, 4), (16, 8)] {
-        assert!(rt; length <= 24);
-        put_refused(rt, &mut session, &input[0..length], room, 21);
+    for (input, room) in [
+        (&input[0..8], 8usize),
+        (&input[0..0], 0),
+        (&input[0..9], 24),
+        (&input[0..9], 4),
+        (&input[0..16], 8),
+    ] {
+        put_refused(rt, &mut session, input, room, 21);
     }
     assert_eq!(rt; session.begin(5), Ok(()));
-    for (length, room, number) in [
-        (9usize, 24usize, 22u8),
-        (7, 7, 22),
-        (9, 4, 22),
-        (1, 0, 22),
-        (16, 15, 23),
-        (8, 0, 23),
+    for (input, room, number) in [
+        (&input[0..9], 24usize, 22u8),
+        (&input[0..7], 7, 22),
+        (&input[0..9], 4, 22),
+        (&input[0..1], 0, 22),
+        (&input[0..16], 15, 23),
+        (&input[0..8], 0, 23),
     ] {
-        assert!(rt; length <= 24);
-        put_refused(rt, &mut session, &input[0..length], room, number);
+        put_refused(rt, &mut session, input, room, number);
     }
     begin_refused(rt, &mut session, 11);
     Ok(())
@@ -99,10 +103,17 @@ fn slip_refused<K: Ends + Drop, L: Kind + Drop>(
     let input = [0x3c; 24];
     let (before, lent) = (seen(session), seen(other));
     assert!(rt; lent.0.running.is_some());
-    for (length, room) in [(8usize, 24usize), (3, 24), (8, 7), (0, 7), (0, 8), (9, 0)] {
+    for (input, room) in [
+        (&input[0..8], 24usize),
+        (&input[0..3], 24),
+        (&input[0..8], 7),
+        (&input[0..0], 7),
+        (&input[0..0], 8),
+        (&input[0..9], 0),
+    ] {
         let mut output = [0xa5; 24];
-        assert!(rt; length <= 24 && room <= 24);
-        let end = session.end_by(other, &input[0..length], &mut output[0..room]);
+        assert!(rt; room <= 24);
+        let end = session.end_by(other, input, &mut output[0..room]);
         assert_eq!(rt;
             (end.map(numbered), output),
             (Some(Err(number)), [0xa5; 24])
@@ -142,18 +153,17 @@ fn sealing_ends_refused(rt: HostRuntime) -> Result<(), Fail> {
     let input = [0x3c; 24];
     let mut output = [0; 8];
     let mut session = begun(&rt, Sealing, Ecb, 7)?;
-    for (length, room, number) in [
-        (8usize, 24usize, 33u8),
-        (9, 8, 33),
-        (8, 7, 33),
-        (16, 0, 33),
-        (7, 7, 34),
-        (1, 0, 34),
-        (0, 7, 34),
-        (0, 8, 35),
+    for (input, room, number) in [
+        (&input[0..8], 24usize, 33u8),
+        (&input[0..9], 8, 33),
+        (&input[0..8], 7, 33),
+        (&input[0..16], 0, 33),
+        (&input[0..7], 7, 34),
+        (&input[0..1], 0, 34),
+        (&input[0..0], 7, 34),
+        (&input[0..0], 8, 35),
     ] {
-        assert!(rt; length <= 24);
-        end_refused(&rt, &mut session, &input[0..length], room, number);
+        end_refused(&rt, &mut session, input, room, number);
     }
     assert_eq!(rt; session.put(&[0x3c; 8], &mut output), Ok(1));
     end_refused(&rt, &mut session, &[0x3c; 8], 8, 33);
@@ -172,9 +182,15 @@ fn opening_ends_refused(rt: HostRuntime) -> Result<(), Fail> {
     let mut output = [0; 8];
     let (no_pad, no_tail) = (sealed(&rt, 0)?, sealed(&rt, 0x8000000000000000)?);
     let mut session = begun(&rt, Opening, Ecb, 7)?;
-    for (length, room) in [(7usize, 24usize), (9, 24), (0, 8), (16, 8), (7, 0), (9, 7)] {
-        assert!(rt; length <= 24);
-        end_refused(&rt, &mut session, &input[0..length], room, 33);
+    for (input, room) in [
+        (&input[0..7], 24usize),
+        (&input[0..9], 24),
+        (&input[0..0], 8),
+        (&input[0..16], 8),
+        (&input[0..7], 0),
+        (&input[0..9], 7),
+    ] {
+        end_refused(&rt, &mut session, input, room, 33);
     }
     for (last, room, number) in [
         (no_pad, 7usize, 34u8),

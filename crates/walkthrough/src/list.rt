@@ -158,7 +158,8 @@ impl Buffer for Outputs {
     }
 }
 
-/// A list of calls on a line just made: what they were handed, and what came of them.
+/// A list of calls on a line just made: what they were handed, and what came of them. Calls and replies lie side by side, and so do
+/// the bytes, since `replay` fills lent buffers.
 #[derive(Clone, Copy)]
 struct Run<'a> {
     requests: &'a [Request],

@@ -27,6 +27,8 @@ impl fmt::Display for Trouble {
     }
 }
 
+// The conversions are written by hand: a derived error asks that each cause can be debugged, and `Misfit` cannot.
+
 impl From<io::Error> for Trouble {
     fn from(error: io::Error) -> Trouble {
         Trouble::Output(error)

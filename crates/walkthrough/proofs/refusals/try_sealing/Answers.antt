@@ -1,4 +1,4 @@
-use Rattle.std.proofs.Common.{◌≡◌, eqb, false, is_some, None, refl, ap, ◌∙◌}
+use Rattle.std.proofs.Common.{◌≡◌, arith, ne_eqb, eqb, false, is_some, None, refl, ap, ◌∙◌}
 use Rattle.session.specs.Slips.{number_of, owing, owed}
 use Rattle.session.proofs.Kept.{put_owed}
 use Rattle.walkthrough.proofs.Refused.{idle_put, odd_put, second_begin, foreign_end, put_err, begin_err, end_err, offers, at_some}
@@ -33,10 +33,11 @@ returns-clause-foreign c =
     let other = c.begin-2.new.self.line in
     let odd = put_owed _ _ _ c.begin.new.self.line c.put-odd.new.self.line _ _ c.put-odd.result _ c.put-odd.ensures in
     let again = second_begin _ _ _ c.put-odd.new.self.line line _ _ (ap is_some odd ∙ c.in_ok-begin.ensures.runs) _ c.begin-again.ensures.did in
-    let seven : number_of line ≡ 7 =
+    let seven =
     c.begin-again.ensures.did.number ∙ c.put-odd.ensures.number ∙ c.in_ok-begin.ensures.did.number ∙ c.put-idle.ensures.number ∙ c.new-session.ensures.made.number_is in
-    let eight : number_of other ≡ 8 = c.in_ok-begin-2.ensures.did.number ∙ c.new-other.ensures.made.number_is in
+    let eight = c.in_ok-begin-2.ensures.did.number ∙ c.new-other.ensures.made.number_is in
+    let apart : eqb (number_of other) (number_of line) ≡ false = ne_eqb _ _ (λ e. omega (arith, e, seven, eight)) in
     let tried = at_some _ c.end_by.result c.unwrap-foreign.result c.unwrap-foreign.ensures c.end_by.ensures.some in
     c.new-foreign.ensures.refused
     ∙ end_err false c.unwrap-foreign.result _
-    (foreign_end _ _ _ line c.end_by.new.self.line _ _ (ap is_some (again.1 ∙ odd) ∙ c.in_ok-begin.ensures.runs) _ _ _ _ (λ i. eqb (eight i) (seven i)) tried)
+    (foreign_end _ _ _ line c.end_by.new.self.line _ _ (ap is_some (again.1 ∙ odd) ∙ c.in_ok-begin.ensures.runs) _ _ _ _ apart tried)
