@@ -54,28 +54,26 @@ length-put at n out bytes within size =
 
 module _ (p : Params) (start : State) (rs : List Request) (inputs outputs : List ℕ) (replies : List (Result Answer Refusal)) where
   -- the calls that are left
-  abbrev pub rest : ℕ → ℕ → ℕ → List Call
-  rest k read wrote = calls (drop k rs) (drop read inputs) (drop wrote outputs)
+  abbrev pub rest : ℕ → List ℕ → ℕ → List Call
+  rest k ins wrote = calls (drop k rs) ins (drop wrote outputs)
 
-  -- where the loop over the calls stands: k are done, and `read` and `wrote` bytes with them
-  pub record Sofar (k read wrote : ℕ) (s : State) (outs : List ℕ) (reps : List (Result Answer Refusal)) : Type 0 where
-    pub reads : read ≤ length inputs
+  -- where the loop over the calls stands: k are done and `wrote` bytes with them, and `ins` are the bytes that are left to read
+  pub record Sofar (k : ℕ) (ins : List ℕ) (wrote : ℕ) (s : State) (outs : List ℕ) (reps : List (Result Answer Refusal)) : Type 0 where
     pub writes : wrote ≤ length outputs
-    pub bytes : bytes_fit (drop k rs) (length inputs - read) (length outputs - wrote) ≡ true
+    pub bytes : bytes_fit (drop k rs) (length ins) (length outputs - wrote) ≡ true
     pub outs_long : length outs ≡ length outputs
     pub reps_long : length reps ≡ length replies
-    pub state : left p s (rest k read wrote) ≡ left p start (calls rs inputs outputs)
-    pub reply : take k reps ++ answers (run p s (rest k read wrote)) ≡ answers (run p start (calls rs inputs outputs))
-    pub out : take wrote outs ++ out_bytes (run p s (rest k read wrote)) ≡ out_bytes (run p start (calls rs inputs outputs))
+    pub state : left p s (rest k ins wrote) ≡ left p start (calls rs inputs outputs)
+    pub reply : take k reps ++ answers (run p s (rest k ins wrote)) ≡ answers (run p start (calls rs inputs outputs))
+    pub out : take wrote outs ++ out_bytes (run p s (rest k ins wrote)) ≡ out_bytes (run p start (calls rs inputs outputs))
     pub reps_back : drop k reps ≡ drop k replies
     pub outs_back : drop wrote outs ≡ drop wrote outputs
-    pub fit : AllFit (rest k read wrote) → AllFit (calls rs inputs outputs)
+    pub fit : AllFit (rest k ins wrote) → AllFit (calls rs inputs outputs)
 
-  pub none_done : bytes_fit rs (length inputs) (length outputs) ≡ true → Sofar 0 0 0 start outputs replies
+  pub none_done : bytes_fit rs (length inputs) (length outputs) ≡ true → Sofar 0 inputs 0 start outputs replies
   none_done fits = record {
-    reads = omega arith;
     writes = omega arith;
-    bytes = subst (λ n. bytes_fit rs n (length outputs - 0) ≡ true) (minus (length inputs)) (subst (λ n. bytes_fit rs (length inputs) n ≡ true) (minus (length outputs)) fits);
+    bytes = subst (λ n. bytes_fit rs (length inputs) n ≡ true) (minus (length outputs)) fits;
     outs_long = refl;
     reps_long = refl;
     state = refl;
@@ -89,29 +87,28 @@ module _ (p : Params) (start : State) (rs : List Request) (inputs outputs : List
       minus : (n : ℕ) → n ≡ n - 0
       minus n = omega arith
 
-  pub one_more : (k read wrote : ℕ) (s s' : State) (outs : List ℕ) (reps : List (Result Answer Refusal)) (d : Request) (a : Result Answer Refusal) (o : List ℕ)
-      → k < length rs → length rs ≤ length replies → Sofar k read wrote s outs reps
-      → after p s (call_of (get_or rs k d) (take (input_size (get_or rs k d)) (drop read inputs)) (take (output_size (get_or rs k d)) (drop wrote outs))) ≡ record { state = s'; answer = a; out = o }
-      → Fit (call_of (get_or rs k d) (take (input_size (get_or rs k d)) (drop read inputs)) (take (output_size (get_or rs k d)) (drop wrote outs)))
+  pub one_more : (k : ℕ) (ins : List ℕ) (wrote : ℕ) (s s' : State) (outs : List ℕ) (reps : List (Result Answer Refusal)) (d : Request) (a : Result Answer Refusal) (o : List ℕ)
+      → k < length rs → length rs ≤ length replies → Sofar k ins wrote s outs reps
+      → after p s (call_of (get_or rs k d) (take (input_size (get_or rs k d)) ins) (take (output_size (get_or rs k d)) (drop wrote outs))) ≡ record { state = s'; answer = a; out = o }
+      → Fit (call_of (get_or rs k d) (take (input_size (get_or rs k d)) ins) (take (output_size (get_or rs k d)) (drop wrote outs)))
       → length o ≡ output_size (get_or rs k d)
-      → Sofar (k + 1) (read + input_size (get_or rs k d)) (wrote + output_size (get_or rs k d)) s' (put_mid wrote (output_size (get_or rs k d)) outs o) (set reps k a)
+      → Sofar (k + 1) (drop (input_size (get_or rs k d)) ins) (wrote + output_size (get_or rs k d)) s' (put_mid wrote (output_size (get_or rs k d)) outs o) (set reps k a)
   unfolding calls run left
-  one_more k read wrote s s' outs reps d a o here room h did fit size =
+  one_more k ins wrote s s' outs reps d a o here room h did fit size =
       let x : ℕ = input_size (get_or rs k d) in
       let y : ℕ = output_size (get_or rs k d) in
-      let (hx, hy, more) = fits_here rs k d (length inputs - read) (length outputs - wrote) here h.bytes in
+      let (hx, hy, more) = fits_here rs k d (length ins) (length outputs - wrote) here h.bytes in
       let in_room : k < length reps = omega (arith, h.reps_long) in
       let within : wrote + y ≤ length outs = omega (arith, h.outs_long, h.writes) in
-      let c : Call = call_of (get_or rs k d) (take x (drop read inputs)) (take y (drop wrote outs)) in
-      let later : List Call = rest (k + 1) (read + x) (wrote + y) in
-      let split : rest k read wrote ≡ c ∷ later =
-      at_drop_more (λ l. calls l (drop read inputs) (drop wrote outputs)) rs k d here
-      ∙ (λ i. call_of (get_or rs k d) (take x (drop read inputs)) (take y (sym h.outs_back i)) ∷ calls (drop (k + 1) rs) (drop-drop x read inputs i) (drop-drop y wrote outputs i)) in
+      let c : Call = call_of (get_or rs k d) (take x ins) (take y (drop wrote outs)) in
+      let later : List Call = rest (k + 1) (drop x ins) (wrote + y) in
+      let split : rest k ins wrote ≡ c ∷ later =
+      at_drop_more (λ l. calls l ins (drop wrote outputs)) rs k d here
+      ∙ (λ i. call_of (get_or rs k d) (take x ins) (take y (sym h.outs_back i)) ∷ calls (drop (k + 1) rs) (drop x ins) (drop-drop y wrote outputs i)) in
       record {
-        reads = omega (arith, h.reads, hx);
         writes = omega (arith, h.writes, hy);
-        bytes = subst (λ n. bytes_fit (drop (k + 1) rs) n (length outputs - (wrote + y)) ≡ true) (sub-sub (length inputs) read x)
-            (subst (λ n. bytes_fit (drop (k + 1) rs) (length inputs - read - x) n ≡ true) (sub-sub (length outputs) wrote y) more);
+        bytes = subst (λ n. bytes_fit (drop (k + 1) rs) n (length outputs - (wrote + y)) ≡ true) (sym (length-drop x ins))
+            (subst (λ n. bytes_fit (drop (k + 1) rs) (length ins - x) n ≡ true) (sub-sub (length outputs) wrote y) more);
         outs_long = length-put wrote y outs o within size ∙ h.outs_long;
         reps_long = length-set reps k a ∙ h.reps_long;
         state = sym (ap (λ z. left p z.state later) did) ∙ sym (ap (left p s) split) ∙ h.state;
@@ -138,32 +135,32 @@ module _ (p : Params) (start : State) (rs : List Request) (inputs outputs : List
       sub-sub n a b = omega arith
 
   -- the next call stays within the buffers
-  pub within : (k read wrote : ℕ) (s : State) (outs : List ℕ) (reps : List (Result Answer Refusal)) (d : Request) (x y : ℕ)
-      → k < length rs → Sofar k read wrote s outs reps → x ≡ input_size (get_or rs k d) → y ≡ output_size (get_or rs k d)
-      → (read + x ≤ length inputs) × (wrote + y ≤ length outs)
-  within k read wrote s outs reps d x y here h ex ey =
-      let (hx, hy, more) = fits_here rs k d (length inputs - read) (length outputs - wrote) here h.bytes in
-      (omega (arith, h.reads, hx, ex), omega (arith, h.writes, hy, ey, h.outs_long))
+  pub within : (k : ℕ) (ins : List ℕ) (wrote : ℕ) (s : State) (outs : List ℕ) (reps : List (Result Answer Refusal)) (d : Request) (x y : ℕ)
+      → k < length rs → Sofar k ins wrote s outs reps → x ≡ input_size (get_or rs k d) → y ≡ output_size (get_or rs k d)
+      → (x ≤ length ins) × (wrote + y ≤ length outs)
+  within k ins wrote s outs reps d x y here h ex ey =
+      let (hx, hy, more) = fits_here rs k d (length ins) (length outputs - wrote) here h.bytes in
+      (omega (arith, hx, ex), omega (arith, h.writes, hy, ey, h.outs_long))
 
-  -- `one_more`, by the lengths of the parts that were lent and the places after them
-  pub one_more_at : (k read wrote : ℕ) (s s' : State) (outs : List ℕ) (reps : List (Result Answer Refusal)) (d : Request) (a : Result Answer Refusal) (o : List ℕ)
-      (n m read' wrote' : ℕ)
-      → k < length rs → length rs ≤ length replies → Sofar k read wrote s outs reps
-      → n ≡ input_size (get_or rs k d) → m ≡ output_size (get_or rs k d) → read' ≡ read + input_size (get_or rs k d) → wrote' ≡ wrote + output_size (get_or rs k d)
-      → after p s (call_of (get_or rs k d) (take n (drop read inputs)) (take m (drop wrote outs))) ≡ record { state = s'; answer = a; out = o }
-      → Fit (call_of (get_or rs k d) (take n (drop read inputs)) (take m (drop wrote outs)))
+  -- `one_more`, by the lengths of the parts that were lent and what is left after them
+  pub one_more_at : (k : ℕ) (ins : List ℕ) (wrote : ℕ) (s s' : State) (outs : List ℕ) (reps : List (Result Answer Refusal)) (d : Request) (a : Result Answer Refusal) (o : List ℕ)
+      (n m wrote' : ℕ)
+      → k < length rs → length rs ≤ length replies → Sofar k ins wrote s outs reps
+      → n ≡ input_size (get_or rs k d) → m ≡ output_size (get_or rs k d) → wrote' ≡ wrote + output_size (get_or rs k d)
+      → after p s (call_of (get_or rs k d) (take n ins) (take m (drop wrote outs))) ≡ record { state = s'; answer = a; out = o }
+      → Fit (call_of (get_or rs k d) (take n ins) (take m (drop wrote outs)))
       → length o ≡ m
-      → Sofar (k + 1) read' wrote' s' (put_mid wrote m outs o) (set reps k a)
-  one_more_at k read wrote s s' outs reps d a o n m read' wrote' here room h en em er ew did fit size =
-      let done = one_more k read wrote s s' outs reps d a o here room h
-      (subst (λ y. after p s (call_of (get_or rs k d) (take (input_size (get_or rs k d)) (drop read inputs)) (take y (drop wrote outs))) ≡ record { state = s'; answer = a; out = o }) em
-      (subst (λ x. after p s (call_of (get_or rs k d) (take x (drop read inputs)) (take m (drop wrote outs))) ≡ record { state = s'; answer = a; out = o }) en did))
-      (subst (λ y. Fit (call_of (get_or rs k d) (take (input_size (get_or rs k d)) (drop read inputs)) (take y (drop wrote outs)))) em
-      (subst (λ x. Fit (call_of (get_or rs k d) (take x (drop read inputs)) (take m (drop wrote outs)))) en fit))
+      → Sofar (k + 1) (drop n ins) wrote' s' (put_mid wrote m outs o) (set reps k a)
+  one_more_at k ins wrote s s' outs reps d a o n m wrote' here room h en em ew did fit size =
+      let done = one_more k ins wrote s s' outs reps d a o here room h
+      (subst (λ y. after p s (call_of (get_or rs k d) (take (input_size (get_or rs k d)) ins) (take y (drop wrote outs))) ≡ record { state = s'; answer = a; out = o }) em
+      (subst (λ x. after p s (call_of (get_or rs k d) (take x ins) (take m (drop wrote outs))) ≡ record { state = s'; answer = a; out = o }) en did))
+      (subst (λ y. Fit (call_of (get_or rs k d) (take (input_size (get_or rs k d)) ins) (take y (drop wrote outs)))) em
+      (subst (λ x. Fit (call_of (get_or rs k d) (take x ins) (take m (drop wrote outs)))) en fit))
       (size ∙ em) in
-      subst (λ r. Sofar (k + 1) r wrote' s' (put_mid wrote m outs o) (set reps k a)) (sym er)
-      (subst (λ w. Sofar (k + 1) (read + input_size (get_or rs k d)) w s' (put_mid wrote m outs o) (set reps k a)) (sym ew)
-      (subst (λ y. Sofar (k + 1) (read + input_size (get_or rs k d)) (wrote + output_size (get_or rs k d)) s' (put_mid wrote y outs o) (set reps k a)) (sym em) done))
+      subst (λ x. Sofar (k + 1) (drop x ins) wrote' s' (put_mid wrote m outs o) (set reps k a)) (sym en)
+      (subst (λ w. Sofar (k + 1) (drop (input_size (get_or rs k d)) ins) w s' (put_mid wrote m outs o) (set reps k a)) (sym ew)
+      (subst (λ y. Sofar (k + 1) (drop (input_size (get_or rs k d)) ins) (wrote + output_size (get_or rs k d)) s' (put_mid wrote y outs o) (set reps k a)) (sym em) done))
 
   pub record AllDone (s : State) (outs : List ℕ) (reps : List (Result Answer Refusal)) : Type 0 where
     pub state : s ≡ left p start (calls rs inputs outputs)
@@ -171,11 +168,11 @@ module _ (p : Params) (start : State) (rs : List Request) (inputs outputs : List
     pub reply : reps ≡ overwritten (answers (run p start (calls rs inputs outputs))) replies
     pub fit : AllFit (calls rs inputs outputs)
 
-  pub all_done : (k read wrote : ℕ) (s : State) (outs : List ℕ) (reps : List (Result Answer Refusal))
-      → length rs ≤ k → k ≤ length replies → Sofar k read wrote s outs reps → AllDone s outs reps
+  pub all_done : (k : ℕ) (ins : List ℕ) (wrote : ℕ) (s : State) (outs : List ℕ) (reps : List (Result Answer Refusal))
+      → length rs ≤ k → k ≤ length replies → Sofar k ins wrote s outs reps → AllDone s outs reps
   unfolding calls run left
-  all_done k read wrote s outs reps end room h =
-      let none : rest k read wrote ≡ [] = at_drop_all (λ l. calls l (drop read inputs) (drop wrote outputs)) rs k end in
+  all_done k ins wrote s outs reps end room h =
+      let none : rest k ins wrote ≡ [] = at_drop_all (λ l. calls l ins (drop wrote outputs)) rs k end in
       record {
         state = sym (ap (left p s) none) ∙ h.state;
         out = whole outs outputs wrote (out_bytes (run p start (calls rs inputs outputs)))
@@ -192,7 +189,7 @@ module _ (p : Params) (start : State) (rs : List Request) (inputs outputs : List
 
 -- the next call stays within the buffers, for the loop
 pub room_for : {p : Params} {start : State} {rs : List Request} {inputs outputs : List ℕ} {replies : List (Result Answer Refusal)}
-    {k read wrote : ℕ} {s : State} {outs : List ℕ} {reps : List (Result Answer Refusal)} {x y : ℕ}
-    (d : Request) → k < length rs → Sofar p start rs inputs outputs replies k read wrote s outs reps → x ≡ input_size (get_or rs k d) → y ≡ output_size (get_or rs k d)
-    → (read + x ≤ length inputs) × (wrote + y ≤ length outs)
+    {k : ℕ} {ins : List ℕ} {wrote : ℕ} {s : State} {outs : List ℕ} {reps : List (Result Answer Refusal)} {x y : ℕ}
+    (d : Request) → k < length rs → Sofar p start rs inputs outputs replies k ins wrote s outs reps → x ≡ input_size (get_or rs k d) → y ≡ output_size (get_or rs k d)
+    → (x ≤ length ins) × (wrote + y ≤ length outs)
 room_for d here h ex ey = within _ _ _ _ _ _ _ _ _ _ _ _ _ _ _ here h ex ey

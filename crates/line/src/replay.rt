@@ -48,17 +48,13 @@ fn perform_all<K: Kind, C: Cipher, M: Mode>(
     ensures fit { AllFit (calls requests.now inputs.now outputs.old) }
 {
     // By place: after a loop over `replies.iter_mut()` no proof knows what the replies are (tried), and so with the outputs.
-    let mut read = 0;
+    let mut rest = inputs;
     let mut written = 0;
     for (i, request) in requests.iter().enumerate() {
-        let read_to = read + request.input_size();
+        let (input, more) = rest.split_at(request.input_size());
         let written_to = written + request.output_size();
-        replies[i] = line.perform(
-            *request,
-            &inputs[read..read_to],
-            &mut outputs[written..written_to],
-        );
-        read = read_to;
+        replies[i] = line.perform(*request, input, &mut outputs[written..written_to]);
+        rest = more;
         written = written_to;
     }
 }

@@ -46,7 +46,6 @@ impl<K: Kind, C: Cipher, M: Mode> BlockMode<K, C, M> {
             ensures out { output.new ≡ overwritten (flat_map bytes_of (outs (step_through K.Kind.opening M.Mode.steps C.Cipher.meaning through.now) start (blocks_of input.now))) output.old }
         {
             let mut register = start;
-            let mut at = 0;
             let mut rest = input;
             while let [b0, b1, b2, b3, b4, b5, b6, b7, more @ ..] = rest {
                 let taken = block::from_bytes([*b0, *b1, *b2, *b3, *b4, *b5, *b6, *b7]);
@@ -54,9 +53,9 @@ impl<K: Kind, C: Cipher, M: Mode> BlockMode<K, C, M> {
                     .kind
                     .step(&through.cipher, &through.mode, register, taken);
                 // By place: after a loop over `output.chunks_exact_mut(8)` no proof knows what the chunks hold (tried).
+                let at = input.len() - rest.len();
                 output[at..at + 8].copy_from_slice(&block::to_bytes(given));
                 register = next;
-                at += 8;
                 rest = more;
             }
             register
