@@ -116,6 +116,7 @@ impl State {
                 if self.used as usize + blocks > 1_048_575 {
                     return Err(Refusal::KeyExhausted);
                 }
+                // Not by `try_from`: the limit above bounds it, and a second refusal could never come.
                 self.used += blocks as u32;
                 self.blocks += blocks as u32;
                 Ok(Answer::Taken { blocks })

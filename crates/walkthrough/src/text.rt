@@ -55,7 +55,7 @@ impl fmt::Display for Text<'_> {
         for byte in self.0 {
             match *byte {
                 b'\n' => f.write_str("\\n")?,
-                byte => f.write_char(byte as char)?,
+                byte => f.write_char(char::from(byte))?,
             }
         }
         Ok(())

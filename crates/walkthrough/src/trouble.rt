@@ -27,7 +27,8 @@ impl fmt::Display for Trouble {
     }
 }
 
-// The conversions are written by hand: a derived error asks that each cause can be debugged, and `Misfit` cannot.
+// `From` and `Display` are written out: the derive of `thiserror` (tried) prints `io::Error` for debugging, and the program would then
+// trust one more function of the C library.
 
 impl From<io::Error> for Trouble {
     fn from(error: io::Error) -> Trouble {
