@@ -50,7 +50,7 @@ abbrev pub abandoned : Result ℕ Returned → Result Answer Refusal
 abandoned (Ok b) = Ok (Abandoned b)
 abandoned (Err back) = Err back.refusal
 
--- A refusal hands the same slip back.
+-- A refusal hands the same slip back. (Each call with a slip promises it by itself: what is handed back is plain data.)
 abbrev pub HandsBack : {A : Type 0} → Slip → Result A Returned → Type 0
 HandsBack slip (Ok a) = Unit {0}
 HandsBack slip (Err back) = back.slip ≡ slip

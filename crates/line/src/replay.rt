@@ -61,6 +61,7 @@ fn perform_all<K: Kind, C: Cipher, M: Mode>(
 
 /// Makes a line and performs a list of calls on it, with the bytes of each call lying one after another in `inputs` and
 /// `outputs`. It writes the reply to each call into `replies` and answers where the list leaves the line. No slip leaves it.
+/// By rule it allocates nothing, hence the four lent buffers.
 ///
 /// Where the buffers do not hold what the calls ask for, it changes nothing.
 pub fn replay<K: Kind + Drop, C: Cipher + Drop, M: Mode + Drop>(

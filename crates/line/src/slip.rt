@@ -32,6 +32,7 @@ impl Slip {
     pub(crate) fn settle(self, decided: Result<Answer, Refusal>) -> Result<Answer, Returned>
         ensures { result ≡ settled self decided }
     {
+        // No `map_err`: the slip goes into either arm.
         match decided {
             Ok(answer) => {
                 let Slip { line: _, file: _ } = self;

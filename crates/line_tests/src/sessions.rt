@@ -16,7 +16,7 @@ pub(crate) fn seen<K: Kind + Drop, M: Mode + Drop>(
     (session.state(), session.slip())
 }
 
-/// A call's result with the refusal's number.
+/// A call's result with the refusal's number, by which the tests' tables name it.
 pub(crate) fn numbered<A>(answer: Result<A, Refusal>) -> Result<A, u8> {
     answer.map_err(Refusal::number)
 }

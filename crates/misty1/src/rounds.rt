@@ -31,6 +31,7 @@ impl Cipher for Misty1 {
 fn split(block: u64) -> State
     ensures { result ≡ splitting block }
 {
+    // `as` on what the mask has cut to sixteen bits; `try_from` would add a case that never comes.
     let [a, b, c, d]: [u16; 4] = array::from_fn(|i| (block >> (48 - 16 * i) & 0xffff) as u16);
     ((a, b), (c, d))
 }

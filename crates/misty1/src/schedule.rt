@@ -50,6 +50,7 @@ impl KeyRefused {
 fn split(n: u128) -> [u16; 8]
     ensures { result ≡ words_of n }
 {
+    // `as` on what the mask has cut to sixteen bits, as in `rounds::split`.
     array::from_fn(|i| (n >> (112 - 16 * i) & 0xffff) as u16)
 }
 

@@ -151,6 +151,7 @@ impl State {
                 self.blocks += 1;
                 self.running = None;
                 let blocks = self.blocks;
+                // By rule this one match decides the call; a kind in place of the flag would be no plainer for one answer.
                 if opens {
                     Ok(Answer::Opened { blocks, tail })
                 } else {

@@ -57,6 +57,7 @@ impl<K: Kind + Drop, C: Cipher + Drop, M: Mode + Drop> Session<K, C, M> {
         ensures runs { IfOk result (λ _. IsSome (owed self.new.line)) }
     {
         let slip = self.line.begin(start)?;
+        // No file ran, so there was no slip; one could not be let go.
         match self.slip.replace(slip) {
             None => Ok(()),
             Some(_) => unreachable!(),

@@ -27,6 +27,7 @@ impl<K: Kind + Drop, C: Cipher + Drop, M: Mode + Drop> Drop for Session<K, C, M>
     fn drop(self) {
         let Session { mut line, slip } = self;
         if let Some(slip) = slip {
+            // It is the running file's own, so it is taken. (No `unwrap`: an error would hold the slip.)
             match line.abandon(slip) {
                 Ok(_) => {}
                 Err(_) => unreachable!(),

@@ -13,6 +13,7 @@ pub(crate) fn settle<A>(place: &mut Option<Slip>, tried: Result<A, Returned>) ->
 {
     match tried {
         Ok(answer) => Ok(answer),
+        // The place is empty: a slip that lay there could not be let go.
         Err(Returned { slip, refusal }) => match place.replace(slip) {
             None => Err(refusal),
             Some(_) => unreachable!(),

@@ -47,6 +47,7 @@ impl<K: Kind, C: Cipher, M: Mode> BlockMode<K, C, M> {
         {
             let mut register = start;
             let mut rest = input;
+            // By rule the blocks are taken by a pattern of eight named bytes and the rest, which asks for a `while let`.
             while let [b0, b1, b2, b3, b4, b5, b6, b7, more @ ..] = rest {
                 let taken = block::from_bytes([*b0, *b1, *b2, *b3, *b4, *b5, *b6, *b7]);
                 let (given, next) = through
@@ -81,6 +82,7 @@ impl<K: Kind, C: Cipher, M: Mode> BlockMode<K, C, M> {
             return;
         };
         let bytes = block::to_bytes(last.block);
+        // A number that the kind decides, and not a step: a method of the kind for it would be no plainer.
         let size = if self.kind.opens() {
             last.tail.unwrap_or(0)
         } else {

@@ -8,7 +8,8 @@ use mode::Mode;
 
 /// Which way a line goes.
 ///
-/// A kind that says no more than whether it opens has the steps that follow from that.
+/// A kind that says no more than whether it opens has the steps that follow from that. So a kind of your own, for example one
+/// that is chosen as a program runs, owes what it owed when there was no more to say.
 pub trait Kind {
     /// Whether it opens; where it does not, it seals.
     ghost opening: { Self → Bool };

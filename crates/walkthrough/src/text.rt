@@ -113,7 +113,7 @@ impl fmt::Display for Reply {
     }
 }
 
-/// The word for an answer.
+/// The word for an answer: a `bool` prints as true or false.
 pub(crate) fn word(yes: bool) -> &'static str {
     if yes { "yes" } else { "no" }
 }
