@@ -24,6 +24,21 @@ pub trait Cipher {
     ghost sound: { (c : Self) → Sound (meaning c) };
 }
 
+/// A cipher that is borrowed means what it means where it lies.
+impl<C: Cipher> Cipher for &C {
+    ghost meaning = { λ c. C.Cipher.meaning c.now };
+
+    ghost sound = { Prim.search rules };
+
+    fn encipher(&self, block: u64) -> u64 {
+        (**self).encipher(block)
+    }
+
+    fn decipher(&self, block: u64) -> u64 {
+        (**self).decipher(block)
+    }
+}
+
 /// The inverse of a cipher: E and D exchanged.
 #[derive(Clone, Copy, Drop)]
 pub struct Inverse<C> {

@@ -6,3 +6,4 @@ pub mod Complements
 pub mod Instances
 pub mod AllLaws
 pub mod Replays
+pub mod Kept

@@ -73,6 +73,11 @@ put_taken p s s₁ input output a r o ea es er eo =
     ea
     (bytes ∙ ap (λ f. unless f output (overwritten (written p s (Put input output)) output)) (sym none))
 
+-- an accepted end has room for a block
+pub end_room : (number : ℕ) (s : State) (line file : ℕ) (last : Option Last) (output : ℕ) (a b : Answer)
+    → Ok b ≡ outcome (refusal number s (event.End line file last output)) a → 8 ≤ output
+end_room number s line file last output a b e = (end_facts number s line file last output (accepted _ a b e)).room
+
 -- an end, worked out from `last`
 module _ (p : Params) (s s' : State) (line file : ℕ) (input output : List ℕ) (last : Option Last)
     (worked : last ≡ last_of p.opens p.step s.register input)
@@ -93,7 +98,7 @@ module _ (p : Params) (s s' : State) (line file : ℕ) (input output : List ℕ)
   end_taken a o ea eo =
       let f = refusal_to p s (End line file input output) in
       let none : f ≡ None = accepted f _ a (answers (Ok a) ea) in
-      let room : 8 ≤ length output = (end_facts p.number s line file last (length output) (accepted _ _ a ea)).room in
+      let room = end_room p.number s line file last (length output) _ a ea in
       let all : fitting (last_bytes p.opens last) output ≡ last_bytes p.opens last = take_all (length output) (last_bytes p.opens last) (omega (arith, room, last_short p.opens last)) in
       performed p s (End line file input output) s' (Ok a) o moves (answers (Ok a) ea)
       (eo ∙ ap (λ l. overwritten l output) all ∙ ap (λ l. overwritten (last_bytes p.opens l) output) worked ∙ ap (λ f. unless f output (overwritten (written p s (End line file input output)) output)) (sym none))

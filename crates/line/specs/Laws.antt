@@ -118,7 +118,7 @@ pub record ComplementExamples : Type 0 where
   pub complement : (a : ℕ) → Complement (mixing a) (mixing a)
   pub ctr_fails : (number : ℕ) → ComplementRuns (params false ctr (mixing 0) number) (params false ctr (mixing 0) number) → ⊥
 
--- The laws of a line of this kind, over this cipher, in this mode, under this number.
+-- The laws of a line of this kind, over this cipher, in this mode, under this number. (Each function that makes a line promises them.)
 pub record Laws (opens : Bool) (cipher : Meaning) (mode : Steps) (number : ℕ) : Type 0 where
   -- with a line of the other kind, over a cipher that means the same
   pub round_trip : (other : Meaning) → Sound other → Same cipher other

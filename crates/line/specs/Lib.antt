@@ -5,3 +5,4 @@ pub mod Model
 pub mod Performs
 pub mod Laws
 pub mod Replay
+pub mod Holds

@@ -47,7 +47,8 @@ fn perform_all<K: Kind, C: Cipher, M: Mode>(
     ensures reply { replies.new ≡ overwritten (answers (run (params_of K.Kind.opening M.Mode.steps C.Cipher.meaning line.old) line.old.machine.state (calls requests.now inputs.now outputs.old))) replies.old }
     ensures fit { AllFit (calls requests.now inputs.now outputs.old) }
 {
-    // By place: after a loop over `replies.iter_mut()` no proof knows what the replies are (tried), and so with the outputs.
+    // By place: after a loop over `requests.iter().zip(replies.iter_mut())` no proof knows what the replies are (tried), and none
+    // knows what lies in parts that were lent.
     let mut rest = inputs;
     let mut written = 0;
     for (i, request) in requests.iter().enumerate() {

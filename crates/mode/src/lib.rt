@@ -11,6 +11,7 @@ pub mod padding;
 
 ghost use Rattle.std.specs.Prelude.{◌≡◌};
 ghost use Rattle.mode.specs.Steps.{Steps, Lawful};
+ghost use Rattle.std.proofs.Common.{rules};
 
 use cipher::Cipher;
 
@@ -30,4 +31,19 @@ pub trait Mode {
         ensures { result ≡ (steps self.now).opening (C.Cipher.meaning cipher.now) register block };
 
     ghost lawful: { (m : Self) → Lawful (steps m) };
+}
+
+/// A mode that is borrowed takes the steps that it takes where it lies.
+impl<M: Mode> Mode for &M {
+    ghost steps = { λ m. M.Mode.steps m.now };
+
+    ghost lawful = { Prim.search rules };
+
+    fn seal<C: Cipher>(&self, cipher: &C, register: u64, block: u64) -> (u64, u64) {
+        (**self).seal(cipher, register, block)
+    }
+
+    fn open<C: Cipher>(&self, cipher: &C, register: u64, block: u64) -> (u64, u64) {
+        (**self).open(cipher, register, block)
+    }
 }

@@ -38,6 +38,7 @@ impl Refusal {
     pub fn number(self) -> u8
         ensures { result ≡ number_of self }
     {
+        // Not by discriminants and `as`: a number given twice is refused by the proof here, and would be by the compiler there.
         match self {
             Refusal::AlreadyRunning => 11,
             Refusal::KeyRetired => 12,

@@ -117,8 +117,9 @@ impl State {
                     return Err(Refusal::KeyExhausted);
                 }
                 // Not by `try_from`: the limit above bounds it, and a second refusal could never come.
-                self.used += blocks as u32;
-                self.blocks += blocks as u32;
+                let taken = blocks as u32;
+                self.used += taken;
+                self.blocks += taken;
                 Ok(Answer::Taken { blocks })
             }
             (None, Event::End { .. }) => Err(Refusal::NothingRuns),

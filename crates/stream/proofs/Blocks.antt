@@ -1,5 +1,5 @@
 -- Blocks through a line's step. Assumes nothing.
-use Rattle.std.proofs.Common.{◌≡◌, ℕ, ◌+◌, ◌-◌, ◌<◌, ◌≤◌, min, Bool, true, false, cond, List, [], ◌∷◌, ◌++◌, length, get_or, take, drop, Some, None, Option, unwrap_or, sym, refl, ap, ◌∙◌, arith, length-drop, take-append-drop, eq-eqb}
+use Rattle.std.proofs.Common.{◌≡◌, ℕ, ◌+◌, ◌-◌, ◌<◌, ◌≤◌, min, Bool, true, false, cond, eqb, ltb, List, [], ◌∷◌, ◌++◌, length, get_or, take, drop, Some, None, Option, unwrap_or, sym, refl, ap, ◌∙◌, arith, length-drop, take-append-drop, ltb-true, eq-eqb}
 use borrow.Rule.Slice.PartMut.{put_mid}
 use Rattle.std.specs.List.{flat_map}
 use Rattle.std.proofs.lemmas.List.{append-nil, append_assoc, length-take, length-take-le, length-append, take_all, take-take, drop-drop}
@@ -8,7 +8,8 @@ use Rattle.block.specs.Block.{number, bytes_of, blocks_of}
 use Rattle.block.proofs.Bytes.{eight, length-bytes, by_eights}
 use Rattle.mode.specs.Pad.{tail_length}
 use Rattle.stream.specs.declared.last.Last.{Last}
-use Rattle.stream.specs.Stream.{outs, last_register, opened_last, opened_last_of, last_bytes, fitting, overwritten}
+use Rattle.stream.specs.Stream.{outs, last_register, opened_last, opened_last_of, last_of, tail_of, last_bytes, fitting, overwritten}
+use Rattle.mode.proofs.Padded.{tail_found}
 
 -- an opened last block, from the eight bytes that were read one by one
 pub opened_last_is : (step : ℕ → ℕ → ℕ × ℕ) (r : ℕ) (input : List ℕ) (b : ℕ) (out : ℕ × ℕ) (bytes : List ℕ) (tail : Option ℕ)
@@ -130,3 +131,22 @@ last_short true None = omega arith
 last_short false None = omega arith
 last_short true (Some l) = omega (arith, length-take (unwrap_or l.tail 0) (bytes_of l.block), length-bytes l.block)
 last_short false (Some l) = omega (arith, length-bytes l.block)
+
+-- a tail is shorter than a block
+pub tail_fits : (opens : Bool) (step : ℕ → ℕ → ℕ × ℕ) (r : ℕ) (input : List ℕ) (last : Option Last) → last ≡ last_of opens step r input
+    → unwrap_or (tail_of last) 0 ≤ 8
+unfolding last_of
+tail_fits false step r input last e = go (ltb (length input) 8) refl
+  where
+    go : (b : Bool) → ltb (length input) 8 ≡ b → unwrap_or (tail_of last) 0 ≤ 8
+    go true t = rw (e, t) (omega (arith, ltb-true (length input) 8 t))
+    go false t = rw (e, t) (omega arith)
+tail_fits true step r input last e = go (eqb (length input) 8) refl
+  where
+    found : (bytes : List ℕ) (t : Option ℕ) → tail_length bytes ≡ t → unwrap_or t 0 ≤ 8
+    found bytes None q = omega arith
+    found bytes (Some n) q = omega (arith, (tail_found bytes 8 n q).0)
+
+    go : (b : Bool) → eqb (length input) 8 ≡ b → unwrap_or (tail_of last) 0 ≤ 8
+    go true t = rw (e, t) (found (bytes_of (step r (number input)).0) _ refl)
+    go false t = rw (e, t) (omega arith)

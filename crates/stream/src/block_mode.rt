@@ -50,9 +50,7 @@ impl<K: Kind, C: Cipher, M: Mode> BlockMode<K, C, M> {
             // By rule the blocks are taken by a pattern of eight named bytes and the rest, which asks for a `while let`.
             while let [b0, b1, b2, b3, b4, b5, b6, b7, more @ ..] = rest {
                 let taken = block::from_bytes([*b0, *b1, *b2, *b3, *b4, *b5, *b6, *b7]);
-                let (given, next) = through
-                    .kind
-                    .step(&through.cipher, &through.mode, register, taken);
+                let (given, next) = K::step(through, register, taken);
                 // By place: after a loop over `output.chunks_exact_mut(8)` no proof knows what the chunks hold (tried).
                 let at = input.len() - rest.len();
                 output[at..at + 8].copy_from_slice(&block::to_bytes(given));
@@ -70,8 +68,7 @@ impl<K: Kind, C: Cipher, M: Mode> BlockMode<K, C, M> {
     pub fn last_block(&self, register: u64, input: &[u8]) -> Option<Last>
         ensures { result ≡ last_of (K.Kind.opening self.now.kind) (step_through K.Kind.opening M.Mode.steps C.Cipher.meaning self.now) register input.now }
     {
-        self.kind
-            .last_block(&self.cipher, &self.mode, register, input)
+        K::last_block(self, register, input)
     }
 
     /// Writes what the end of a file gives, the sealed block or the tail alone, as far as `output` has room for it.

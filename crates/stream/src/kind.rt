@@ -1,15 +1,15 @@
 // The two kinds of line: which way blocks go through a mode.
 ghost use Rattle.std.specs.Prelude.{◌≡◌, Bool, true, false};
-ghost use Rattle.stream.specs.Stream.{step_of, last_of};
+ghost use Rattle.stream.specs.Stream.{step_through, last_of};
 
+use crate::BlockMode;
 use crate::last::{Last, opened_last, sealed_last};
 use cipher::Cipher;
 use mode::Mode;
 
 /// Which way a line goes.
 ///
-/// A kind that says no more than whether it opens has the steps that follow from that. So a kind of your own, for example one
-/// that is chosen as a program runs, owes what it owed when there was no more to say.
+/// A kind that says no more than whether it opens has the steps that follow from that.
 pub trait Kind {
     /// Whether it opens; where it does not, it seals.
     ghost opening: { Self → Bool };
@@ -19,36 +19,32 @@ pub trait Kind {
 
     /// The mode's step in this direction.
     fn step<C: Cipher, M: Mode>(
-        &self,
-        cipher: &C,
-        mode: &M,
+        through: &BlockMode<Self, C, M>,
         register: u64,
         block: u64,
     ) -> (u64, u64)
-        ensures { result ≡ step_of (opening self.now) (M.Mode.steps mode.now) (C.Cipher.meaning cipher.now) register block }
+        ensures { result ≡ step_through opening M.Mode.steps C.Cipher.meaning through.now register block }
     {
-        if self.opens() {
-            mode.open(cipher, register, block)
+        if through.kind.opens() {
+            through.mode.open(&through.cipher, register, block)
         } else {
-            mode.seal(cipher, register, block)
+            through.mode.seal(&through.cipher, register, block)
         }
     }
 
     /// A file's last block through the step; none where `input` is no tail, or no block.
     #[tactic(auto, unfolding(crate::specs::Stream::last_of))]
     fn last_block<C: Cipher, M: Mode>(
-        &self,
-        cipher: &C,
-        mode: &M,
+        through: &BlockMode<Self, C, M>,
         register: u64,
         input: &[u8],
     ) -> Option<Last>
-        ensures { result ≡ last_of (opening self.now) (step_of (opening self.now) (M.Mode.steps mode.now) (C.Cipher.meaning cipher.now)) register input.now }
+        ensures { result ≡ last_of (opening through.now.kind) (step_through opening M.Mode.steps C.Cipher.meaning through.now) register input.now }
     {
-        if self.opens() {
-            opened_last(cipher, mode, register, input)
+        if through.kind.opens() {
+            opened_last(through, register, input)
         } else {
-            sealed_last(cipher, mode, register, input)
+            sealed_last(through, register, input)
         }
     }
 }
@@ -69,24 +65,20 @@ impl Kind for Sealing {
     }
 
     fn step<C: Cipher, M: Mode>(
-        &self,
-        cipher: &C,
-        mode: &M,
+        through: &BlockMode<Sealing, C, M>,
         register: u64,
         plain: u64,
     ) -> (u64, u64) {
-        mode.seal(cipher, register, plain)
+        through.mode.seal(&through.cipher, register, plain)
     }
 
     #[tactic(auto, unfolding(crate::specs::Stream::last_of))]
     fn last_block<C: Cipher, M: Mode>(
-        &self,
-        cipher: &C,
-        mode: &M,
+        through: &BlockMode<Sealing, C, M>,
         register: u64,
         tail: &[u8],
     ) -> Option<Last> {
-        sealed_last(cipher, mode, register, tail)
+        sealed_last(through, register, tail)
     }
 }
 
@@ -98,23 +90,28 @@ impl Kind for Opening {
     }
 
     fn step<C: Cipher, M: Mode>(
-        &self,
-        cipher: &C,
-        mode: &M,
+        through: &BlockMode<Opening, C, M>,
         register: u64,
         sealed: u64,
     ) -> (u64, u64) {
-        mode.open(cipher, register, sealed)
+        through.mode.open(&through.cipher, register, sealed)
     }
 
     #[tactic(auto, unfolding(crate::specs::Stream::last_of))]
     fn last_block<C: Cipher, M: Mode>(
-        &self,
-        cipher: &C,
-        mode: &M,
+        through: &BlockMode<Opening, C, M>,
         register: u64,
         last: &[u8],
     ) -> Option<Last> {
-        opened_last(cipher, mode, register, last)
+        opened_last(through, register, last)
+    }
+}
+
+/// A kind that is chosen while a program runs: whether it opens.
+impl Kind for bool {
+    ghost opening = { λ opens. opens };
+
+    fn opens(&self) -> bool {
+        *self
     }
 }

@@ -2,6 +2,7 @@
 ghost use Rattle.std.specs.Prelude.{◌≡◌};
 ghost use Rattle.stream.specs.Stream.{sealed_last_of, opened_last_of};
 
+use crate::BlockMode;
 use cipher::Cipher;
 use mode::{Mode, padding};
 
@@ -17,16 +18,17 @@ pub struct Last {
 }
 
 /// A tail and its pad, sealed; none where the tail is over 7 bytes.
-pub(crate) fn sealed_last<C: Cipher, M: Mode>(
-    cipher: &C,
-    mode: &M,
+pub(crate) fn sealed_last<K, C: Cipher, M: Mode>(
+    through: &BlockMode<K, C, M>,
     register: u64,
     tail: &[u8],
 ) -> Option<Last>
-    ensures { result ≡ sealed_last_of ((M.Mode.steps mode.now).sealing (C.Cipher.meaning cipher.now)) register tail.now }
+    ensures { result ≡ sealed_last_of ((M.Mode.steps through.now.mode).sealing (C.Cipher.meaning through.now.cipher)) register tail.now }
 {
     let bytes = padding::pad(tail)?;
-    let (block, register) = mode.seal(cipher, register, block::from_bytes(bytes));
+    let (block, register) = through
+        .mode
+        .seal(&through.cipher, register, block::from_bytes(bytes));
     Some(Last {
         block,
         register,
@@ -35,19 +37,18 @@ pub(crate) fn sealed_last<C: Cipher, M: Mode>(
 }
 
 /// The last block, opened; none where it is not 8 bytes.
-pub(crate) fn opened_last<C: Cipher, M: Mode>(
-    cipher: &C,
-    mode: &M,
+pub(crate) fn opened_last<K, C: Cipher, M: Mode>(
+    through: &BlockMode<K, C, M>,
     register: u64,
     last: &[u8],
 ) -> Option<Last>
-    ensures { result ≡ opened_last_of ((M.Mode.steps mode.now).opening (C.Cipher.meaning cipher.now)) register last.now }
+    ensures { result ≡ opened_last_of ((M.Mode.steps through.now.mode).opening (C.Cipher.meaning through.now.cipher)) register last.now }
 {
     let [b0, b1, b2, b3, b4, b5, b6, b7] = last else {
         return None;
     };
     let sealed = block::from_bytes([*b0, *b1, *b2, *b3, *b4, *b5, *b6, *b7]);
-    let (block, register) = mode.open(cipher, register, sealed);
+    let (block, register) = through.mode.open(&through.cipher, register, sealed);
     Some(Last {
         block,
         register,
