@@ -30,8 +30,7 @@ impl Request {
         ensures { result ≡ input_size self }
     {
         match self {
-            Request::Put { input, .. } => input,
-            Request::End { input, .. } => input,
+            Request::Put { input, .. } | Request::End { input, .. } => input,
             _ => 0,
         }
     }
@@ -41,8 +40,7 @@ impl Request {
         ensures { result ≡ output_size self }
     {
         match self {
-            Request::Put { output, .. } => output,
-            Request::End { output, .. } => output,
+            Request::Put { output, .. } | Request::End { output, .. } => output,
             _ => 0,
         }
     }

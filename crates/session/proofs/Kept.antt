@@ -58,10 +58,11 @@ module _ {K C M : Type 0} where
   kept_is l a b e k = ap (option_map numbers) (sym e) ∙ k
 
   -- a session whose line owes nothing has no slip
-  pub no_slip : (l : Line K C M) (kept : Option Slip) (slip : Slip) → IsKept l kept → owed l ≡ None → kept ≡ Some slip → ⊥
-  no_slip l kept slip k none e =
-      let some : ◌≡◌ {A = Option (ℕ × ℕ)} (Some (numbers slip)) None = kept_is l kept (Some slip) e k ∙ none in
-      let z : ◌≡◌ {A = ℕ} 0 1 = cc in omega arith
+  pub no_slip : (l : Line K C M) (kept : Option Slip) → IsKept l kept → owed l ≡ None → kept ≡ None
+  no_slip l None k none = refl
+  no_slip l (Some slip) k none =
+      let some : ◌≡◌ {A = Option (ℕ × ℕ)} (Some (numbers slip)) None = k ∙ none in
+      absurd (let z : ◌≡◌ {A = ℕ} 0 1 = cc in omega arith)
 
   -- an end or abandon with a slip: accepted it takes the one that was owed, and refused it hands it back
   abbrev pub Spent : {A : Type 0} → Line K C M → Slip → Line K C M → Result A Returned → Type 0

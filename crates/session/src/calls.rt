@@ -7,7 +7,7 @@ ghost use Rattle.session.specs.Slips.{state_of, number_of, file_of, opens_of, ow
 
 use crate::Session;
 use crate::ends::Ends;
-use crate::settle::settle;
+use crate::hand_back::{hand_back, put_back};
 use cipher::Cipher;
 use line::Line;
 use line::kind::Kind;
@@ -45,10 +45,7 @@ impl<K: Kind + Drop, C: Cipher + Drop, M: Mode + Drop> Session<K, C, M> {
     pub fn slip(&self) -> Option<(u8, u16)>
         ensures { result ≡ owed self.now.line }
     {
-        match &self.slip {
-            Some(slip) => Some((slip.line(), slip.file())),
-            None => None,
-        }
+        self.slip.as_ref().map(|slip| (slip.line(), slip.file()))
     }
 
     /// Begins a file with its start value, and keeps its slip.
@@ -57,11 +54,9 @@ impl<K: Kind + Drop, C: Cipher + Drop, M: Mode + Drop> Session<K, C, M> {
         ensures runs { IfOk result (λ _. IsSome (owed self.new.line)) }
     {
         let slip = self.line.begin(start)?;
-        // No file ran, so there was no slip; one could not be let go.
-        match self.slip.replace(slip) {
-            None => Ok(()),
-            Some(_) => unreachable!(),
-        }
+        // No file ran, so the place is empty.
+        put_back(&mut self.slip, slip);
+        Ok(())
     }
 
     /// Takes whole blocks of the running file, to the front of `output`, and answers how many.
@@ -71,6 +66,9 @@ impl<K: Kind + Drop, C: Cipher + Drop, M: Mode + Drop> Session<K, C, M> {
         self.line.put(input, output)
     }
 
+    // `abandon` and `end` are two functions: they differ in the call and its answer, and so in their clauses, and not in a type or
+    // a constant.
+
     /// Gives the running file up, and answers its blocks.
     pub fn abandon(&mut self) -> Result<u32, Refusal>
         ensures { Performs K.Kind.opening M.Mode.steps C.Cipher.meaning self.old.line (Abandon (number_of self.old.line) (file_of self.old.line)) (abandoned result) [] self.new.line }
@@ -78,7 +76,7 @@ impl<K: Kind + Drop, C: Cipher + Drop, M: Mode + Drop> Session<K, C, M> {
         let Some(slip) = self.slip.take() else {
             return Err(Refusal::NothingRuns);
         };
-        settle(&mut self.slip, self.line.abandon(slip))
+        hand_back(&mut self.slip, self.line.abandon(slip))
     }
 }
 
@@ -91,6 +89,6 @@ impl<K: Ends + Drop, C: Cipher + Drop, M: Mode + Drop> Session<K, C, M> {
         let Some(slip) = self.slip.take() else {
             return Err(Refusal::NothingRuns);
         };
-        settle(&mut self.slip, K::end(&mut self.line, slip, input, output))
+        hand_back(&mut self.slip, K::end(&mut self.line, slip, input, output))
     }
 }

@@ -7,12 +7,15 @@ ghost use Rattle.session.specs.Slips.{number_of, file_of, opens_of, owed, ended,
 
 use crate::Session;
 use crate::ends::Ends;
-use crate::settle::settle;
+use crate::hand_back::hand_back;
 use cipher::Cipher;
 use line::kind::Kind;
 use line::refusal::Refusal;
 use mode::Mode;
 use std::mem;
+
+// `abandon_by` and `end_by` are two functions: they differ in the call and its answer, and so in their clauses, and not in a type
+// or a constant.
 
 impl<K: Kind + Drop, C: Cipher + Drop, M: Mode + Drop> Session<K, C, M> {
     /// Tries to give the running file up with the slip of the file that runs on `other`; none where no file runs there. The
@@ -27,7 +30,7 @@ impl<K: Kind + Drop, C: Cipher + Drop, M: Mode + Drop> Session<K, C, M> {
         ensures other { other.new.line ≡ other.old.line }
     {
         let slip = other.slip.take()?;
-        let tried = settle(&mut other.slip, self.line.abandon(slip));
+        let tried = hand_back(&mut other.slip, self.line.abandon(slip));
         if tried.is_ok() {
             mem::swap(&mut self.slip, &mut other.slip);
         }
@@ -50,7 +53,7 @@ impl<K: Ends + Drop, C: Cipher + Drop, M: Mode + Drop> Session<K, C, M> {
         ensures other { other.new.line ≡ other.old.line }
     {
         let slip = other.slip.take()?;
-        let tried = settle(&mut other.slip, K::end(&mut self.line, slip, input, output));
+        let tried = hand_back(&mut other.slip, K::end(&mut self.line, slip, input, output));
         if tried.is_ok() {
             mem::swap(&mut self.slip, &mut other.slip);
         }

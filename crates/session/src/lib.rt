@@ -4,7 +4,7 @@
 mod calls;
 pub mod ends;
 mod foreign;
-mod settle;
+mod hand_back;
 
 ghost use Rattle.session.specs.Slips.{IsKept};
 

@@ -70,11 +70,7 @@ fn cut(bytes: &[u8], n: usize) -> (&[u8], &[u8])
     ensures front { result.0.now ≡ take n bytes.now }
     ensures rest { result.1.now ≡ drop n bytes.now }
 {
-    if n < bytes.len() {
-        bytes.split_at(n)
-    } else {
-        (bytes, &[])
-    }
+    bytes.split_at(n.min(bytes.len()))
 }
 
 /// How many bytes an accepted call wrote.
@@ -94,7 +90,7 @@ fn handed_on(request: Request, length: usize) -> Request
     ensures { result ≡ call_handed_on request length }
 {
     match request {
-        Request::Begin { start } => Request::Begin { start },
+        Request::Begin { .. } | Request::Abandon { .. } => request,
         Request::Put { .. } => Request::Put {
             input: length,
             output: length,
@@ -105,7 +101,6 @@ fn handed_on(request: Request, length: usize) -> Request
             input: length,
             output: 8,
         },
-        Request::Abandon { line, file } => Request::Abandon { line, file },
     }
 }
 
@@ -158,8 +153,8 @@ impl Buffer for Outputs {
     }
 }
 
-/// A list of calls on a line just made: what they were handed, and what came of them. Calls and replies lie side by side, and so do
-/// the bytes, since `replay` fills lent buffers.
+/// A list of calls on a line just made: what they were handed, and what came of them. Calls and replies lie side by side, as
+/// `replay` reads and fills them: pairs would be a copy of both, and so no plainer.
 #[derive(Clone, Copy)]
 struct Run<'a> {
     requests: &'a [Request],

@@ -14,6 +14,6 @@ invariant_of-self-2 g c =
     let slip = c.in-Some.slip in
     let spent = abandon_spent g.K.Kind.opening g.M.Mode.steps g.C.Cipher.meaning s.line new slip c.abandon.result _ c.abandon.ensures.did c.abandon.ensures.slip in
     record {
-      kept = kept_is new _ _ (sym c.settle.ensures.slip)
+      kept = kept_is new _ _ (sym c.hand_back.ensures.slip)
           (spent_kept s.line new slip c.abandon.result spent (kept_is s.line _ _ (sym c.take.ensures.value ∙ c.in-Some.is) s.kept));
     }

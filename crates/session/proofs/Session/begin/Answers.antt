@@ -7,14 +7,13 @@ use Rattle.session.proofs.Session.begin.Goals as goal
 pub invariant_of-self : goal.invariant_of-self
 invariant_of-self g c = record { kept = c.args.self.now.kept ∙ sym (refused_owed _ _ _ c.args.self.now.line c.begin.new.self _ _ _ c.in_err-slip.ensures) }
 
+pub put_back-requires : goal.put_back-requires
+put_back-requires g c =
+    no_slip c.args.self.now.line _ c.args.self.now.kept (begin_owed _ _ _ c.args.self.now.line c.begin.new.self _ c.in_ok-slip.slip _ c.in_ok-slip.ensures).1
+
 pub invariant_of-self-2 : goal.invariant_of-self-2
 invariant_of-self-2 g c =
-    record { kept = ap (option_map numbers) c.replace.ensures.after ∙ (begin_owed _ _ _ c.args.self.now.line c.begin.new.self _ c.in_ok-slip.slip _ c.in_ok-slip.ensures).0 }
-
-pub unreachable-requires : goal.unreachable-requires
-unreachable-requires g c =
-    no_slip c.args.self.now.line c.args.self.now.slip c.in-Some.field-0 c.args.self.now.kept
-    (begin_owed _ _ _ c.args.self.now.line c.begin.new.self _ c.in_ok-slip.slip _ c.in_ok-slip.ensures).1 (sym c.replace.ensures.value ∙ c.in-Some.is)
+    record { kept = ap (option_map numbers) c.put_back.ensures ∙ (begin_owed _ _ _ c.args.self.now.line c.begin.new.self _ c.in_ok-slip.slip _ c.in_ok-slip.ensures).0 }
 
 pub returns-clause-runs : goal.returns-clause-runs
 returns-clause-runs g c =
