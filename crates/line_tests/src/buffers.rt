@@ -1,6 +1,7 @@
 // What a call writes and what it leaves, and how it counts.
 use crate::ciphers::{KEY, misty1};
-use crate::sessions::{begun, seen};
+use crate::sessions::{Seen, begun};
+use line::Line;
 use line::kind::{Kind, Opening, Sealing};
 use line::state::State;
 use mode::cbc::Cbc;
@@ -54,12 +55,12 @@ fn put_nothing<K: Kind + Drop>(rt: &impl Abort, kind: K) -> Result<(), Fail> {
     let mut output = [0xa5; 16];
     let mut session = begun(rt, kind, Cbc, 7)?;
     assert_eq!(rt; session.put(&[0x3c; 8], &mut output), Ok(1));
-    let (before, bytes) = (seen(&session), output);
+    let (before, bytes) = (Seen::of(&session), output);
     assert_eq!(rt;
         (session.put(&[], &mut output), session.put(&[], &mut [])),
         (Ok(0), Ok(0))
     );
-    assert_eq!(rt; (seen(&session), output), (before, bytes));
+    assert_eq!(rt; (Seen::of(&session), output), (before, bytes));
     Ok(())
 }
 
@@ -72,13 +73,13 @@ fn puts_of_no_blocks_change_nothing(rt: HostRuntime) -> Result<(), Fail> {
 fn abandon_and_begin<K: Kind + Drop>(rt: &impl Abort, kind: K) -> Result<(), Fail> {
     let mut output = [0; 16];
     let mut session = Session::new(kind, misty1(KEY)?, Cbc, 7);
-    let new = seen(&session);
+    let new = Seen::of(&session);
     let begin = session.begin(5);
-    let begun = seen(&session);
+    let begun = Seen::of(&session);
     let put = session.put(&[0x3c; 16], &mut output);
     let register = session.state().register;
     let abandon = session.abandon();
-    let abandoned = seen(&session);
+    let abandoned = Seen::of(&session);
     assert_eq!(rt;
         (begin, put, abandon, session.begin(6)),
         (Ok(()), Ok(2), Ok(2), Ok(()))
@@ -86,55 +87,55 @@ fn abandon_and_begin<K: Kind + Drop>(rt: &impl Abort, kind: K) -> Result<(), Fai
     assert_ne!(rt; register, 5, "the mode changes its register");
     assert_eq!(rt;
         new,
-        (
-            State {
+        Seen {
+            state: State {
                 register: 0,
                 used: 0,
                 files: 0,
                 blocks: 0,
                 running: None,
             },
-            None
-        )
+            slip: None,
+        }
     );
     assert_eq!(rt;
         begun,
-        (
-            State {
+        Seen {
+            state: State {
                 register: 5,
                 used: 0,
                 files: 1,
                 blocks: 0,
                 running: Some(1),
             },
-            Some((7, 1))
-        )
+            slip: Some((7, 1)),
+        }
     );
     assert_eq!(rt;
         abandoned,
-        (
-            State {
+        Seen {
+            state: State {
                 register,
                 used: 2,
                 files: 1,
                 blocks: 2,
                 running: None,
             },
-            None
-        )
+            slip: None,
+        }
     );
     assert_eq!(rt;
-        seen(&session),
-        (
-            State {
+        Seen::of(&session),
+        Seen {
+            state: State {
                 register: 6,
                 used: 2,
                 files: 2,
                 blocks: 0,
                 running: Some(2),
             },
-            Some((7, 2))
-        )
+            slip: Some((7, 2)),
+        }
     );
     Ok(())
 }
@@ -143,4 +144,26 @@ fn abandon_and_begin<K: Kind + Drop>(rt: &impl Abort, kind: K) -> Result<(), Fai
 fn an_abandoned_file_keeps_its_blocks_used(rt: HostRuntime) -> Result<(), Fail> {
     abandon_and_begin(&rt, Sealing)?;
     abandon_and_begin(&rt, Opening)
+}
+
+fn just_made<K: Kind + Drop>(rt: &impl Abort, kind: K) -> Result<(), Fail> {
+    let line = Line::new(kind, misty1(KEY)?, Cbc, 7);
+    assert_eq!(rt;
+        (
+            line.number(),
+            line.register(),
+            line.used(),
+            line.files(),
+            line.blocks(),
+            line.is_running()
+        ),
+        (7, 0, 0, 0, 0, false)
+    );
+    Ok(())
+}
+
+#[test]
+fn a_line_just_made_reads_as_nothing(rt: HostRuntime) -> Result<(), Fail> {
+    just_made(&rt, Sealing)?;
+    just_made(&rt, Opening)
 }

@@ -1,6 +1,6 @@
 // Keys of MISTY1, and ciphers made of others.
 use cipher::{Cipher, Inverse, Then};
-use misty1::Misty1;
+use misty1::{KeyRefused, Misty1};
 use std::test::Fail;
 
 /// The key of the example in RFC 2994.
@@ -12,22 +12,17 @@ pub(crate) fn misty1(key: u128) -> Result<Misty1, Fail> {
 }
 
 #[test]
-fn only_keys_of_sixteen_bytes(rt: HostRuntime) -> Result<(), Fail> {
+fn only_keys_of_sixteen_bytes(rt: HostRuntime) {
     let bytes = [7u8; 24];
     for key in [&bytes[0..0], &bytes[0..15], &bytes[0..17], &bytes[0..24]] {
-        match Misty1::new(key) {
-            Ok(_) => return Err(Fail::new("a key of a wrong length was taken")),
-            Err(refused) => {
-                assert_eq!(rt; refused.number(), 43);
-                assert_eq!(rt; refused.bytes, key.len());
-            }
-        }
+        let refused = KeyRefused { bytes: key.len() };
+        assert_eq!(rt; Misty1::new(key).err(), Some(refused));
+        assert_eq!(rt; refused.number(), 43);
     }
     assert!(rt;
         Misty1::new(&bytes[0..16]).is_ok(),
         "sixteen bytes are a key"
     );
-    Ok(())
 }
 
 #[test]

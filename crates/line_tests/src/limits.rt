@@ -1,7 +1,7 @@
 // The limits of a line: 65,535 files, and 1,048,576 blocks, the last of which only an end may use.
 use crate::ciphers::{KEY, misty1};
 use crate::refusals::{begin_refused, put_refused};
-use crate::sessions::{begun, numbered, seen};
+use crate::sessions::{Seen, begun, numbered};
 use line::kind::{Kind, Opening, Sealing};
 use misty1::Misty1;
 use mode::ecb::Ecb;
@@ -51,11 +51,11 @@ fn too_many<K: Kind + Drop>(
     output: &mut [u8],
 ) {
     assert!(rt; input.len() == ALL + 8);
-    let before = seen(session);
+    let before = Seen::of(session);
     assert_eq!(rt; numbered(session.put(&input[0..ALL + 1], output)), Err(22));
     assert_eq!(rt; numbered(session.put(input, output)), Err(23));
     assert_eq!(rt; numbered(session.put(&input[0..ALL], output)), Err(24));
-    assert_eq!(rt; seen(session), before);
+    assert_eq!(rt; Seen::of(session), before);
     assert!(rt; output.iter().all(|byte| *byte == 0xa5));
 }
 

@@ -1,5 +1,5 @@
 // Each mode over several blocks, in one put and in several, sealed and opened.
-use crate::sessions::{begun, seen};
+use crate::sessions::{Seen, begun};
 use line::kind::{Kind, Opening, Sealing};
 use mode::Mode;
 use mode::cbc::Cbc;
@@ -30,7 +30,7 @@ fn split<K: Kind + Drop + Copy, M: Mode + Drop + Copy>(
         several.put(&input[24..40], &mut third),
     );
     assert_eq!(rt; (put, puts), (Ok(5), (Ok(1), Ok(2), Ok(2))));
-    assert_eq!(rt; seen(&several), seen(&one));
+    assert_eq!(rt; Seen::of(&several), Seen::of(&one));
     assert_eq!(rt;
         (&whole[0..8], &whole[8..24], &whole[24..40]),
         (&first[0..8], &second[0..16], &third[0..16])
@@ -55,13 +55,13 @@ fn counts_alike<M: Mode + Drop + Copy>(rt: &impl Abort, mode: M, name: &str) -> 
         opening.put(&sealed, &mut opened),
     );
     assert_eq!(rt; puts, (Ok(5), Ok(5)), "{name}");
-    assert_eq!(rt; seen(&opening), seen(&sealing), "{name}");
+    assert_eq!(rt; Seen::of(&opening), Seen::of(&sealing), "{name}");
     let ends = (
         sealing.end(&[1, 2, 3, 4], &mut last),
         opening.end(&last, &mut tail),
     );
     assert_eq!(rt; ends, (Ok((6, 8)), Ok((6, 4))), "{name}");
-    assert_eq!(rt; seen(&opening), seen(&sealing), "{name}");
+    assert_eq!(rt; Seen::of(&opening), Seen::of(&sealing), "{name}");
     assert_eq!(rt;
         (&opened, tail),
         (PLAIN, [1, 2, 3, 4, 0, 0, 0, 0]),

@@ -1,6 +1,6 @@
 // Tails and their pads.
 use crate::refusals::end_refused;
-use crate::sessions::{begun, seen};
+use crate::sessions::{Seen, begun};
 use line::kind::{Opening, Sealing};
 use mode::cbc::Cbc;
 use mode::ecb::Ecb;
@@ -50,7 +50,7 @@ fn there_and_back(rt: &impl Abort, tail: &[u8]) -> Result<(), Fail> {
         ((Ok(1), Ok(1)), (Ok((2, 8)), Ok((2, length)))),
         "{length} bytes"
     );
-    assert_eq!(rt; seen(&opening), seen(&sealing), "{length} bytes");
+    assert_eq!(rt; Seen::of(&opening), Seen::of(&sealing), "{length} bytes");
     assert_eq!(rt; opened, BYTES, "{length} bytes");
     assert!(rt; length < 8, "{length} bytes");
     assert_eq!(rt;

@@ -1,7 +1,7 @@
 // Every refusal of a call that needs no long run, and which one wins where several causes hold. A refused call changes nothing.
 // Where a test checks the room of its table, that is for the proof: the part then lies within its array.
 use crate::ciphers::{KEY, misty1};
-use crate::sessions::{begun, numbered, seen};
+use crate::sessions::{Seen, begun, numbered};
 use line::kind::{Kind, Opening, Sealing};
 use misty1::Misty1;
 use mode::Mode;
@@ -23,12 +23,12 @@ pub(crate) fn put_refused<K: Kind + Drop, M: Mode + Drop>(
 ) {
     let mut output = [0xa5; 24];
     assert!(rt; room <= 24);
-    let before = seen(session);
+    let before = Seen::of(session);
     assert_eq!(rt;
         numbered(session.put(input, &mut output[0..room])),
         Err(number)
     );
-    assert_eq!(rt; (seen(session), output), (before, [0xa5; 24]));
+    assert_eq!(rt; (Seen::of(session), output), (before, [0xa5; 24]));
 }
 
 /// Ends into an output of `room` bytes, and sees that the end is refused with the number and changes nothing.
@@ -41,12 +41,12 @@ pub(crate) fn end_refused<K: Ends + Drop, M: Mode + Drop>(
 ) {
     let mut output = [0xa5; 24];
     assert!(rt; room <= 24);
-    let before = seen(session);
+    let before = Seen::of(session);
     assert_eq!(rt;
         numbered(session.end(input, &mut output[0..room])),
         Err(number)
     );
-    assert_eq!(rt; (seen(session), output), (before, [0xa5; 24]));
+    assert_eq!(rt; (Seen::of(session), output), (before, [0xa5; 24]));
 }
 
 /// Begins, and sees that the begin is refused with the number and changes nothing.
@@ -55,9 +55,12 @@ pub(crate) fn begin_refused<K: Kind + Drop, M: Mode + Drop>(
     session: &mut Session<K, Misty1, M>,
     number: u8,
 ) {
-    let before = seen(session);
-    assert_eq!(rt; numbered(session.begin(before.0.register ^ 1)), Err(number));
-    assert_eq!(rt; seen(session), before);
+    let before = Seen::of(session);
+    assert_eq!(rt;
+        numbered(session.begin(before.state.register ^ 1)),
+        Err(number)
+    );
+    assert_eq!(rt; Seen::of(session), before);
 }
 
 fn puts<K: Kind + Drop>(rt: &impl Abort, kind: K) -> Result<(), Fail> {
@@ -101,8 +104,8 @@ fn slip_refused<K: Ends + Drop, L: Kind + Drop>(
     number: u8,
 ) {
     let input = [0x3c; 24];
-    let (before, lent) = (seen(session), seen(other));
-    assert!(rt; lent.0.running.is_some());
+    let (before, lent) = (Seen::of(session), Seen::of(other));
+    assert!(rt; lent.state.running.is_some());
     for (input, room) in [
         (&input[0..8], 24usize),
         (&input[0..3], 24),
@@ -121,7 +124,7 @@ fn slip_refused<K: Ends + Drop, L: Kind + Drop>(
     }
     assert_eq!(rt; session.abandon_by(other).map(numbered), Some(Err(number)));
     assert_eq!(rt;
-        (seen(session), seen(other)),
+        (Seen::of(session), Seen::of(other)),
         (before, lent),
         "the slip was handed back"
     );

@@ -10,10 +10,19 @@ use std::process::Abort;
 use std::test::Fail;
 
 /// What can be read off a session, its state and the numbers of its slip: a refused call leaves both as they were.
-pub(crate) fn seen<K: Kind + Drop, M: Mode + Drop>(
-    session: &Session<K, Misty1, M>,
-) -> (State, Option<(u8, u16)>) {
-    (session.state(), session.slip())
+#[derive(Clone, Copy, PartialEq, Eq, Debug)]
+pub(crate) struct Seen {
+    pub(crate) state: State,
+    pub(crate) slip: Option<(u8, u16)>,
+}
+
+impl Seen {
+    pub(crate) fn of<K: Kind + Drop, M: Mode + Drop>(session: &Session<K, Misty1, M>) -> Seen {
+        Seen {
+            state: session.state(),
+            slip: session.slip(),
+        }
+    }
 }
 
 /// A call's result with the refusal's number, by which the tests' tables name it.
