@@ -18,15 +18,9 @@ use Rattle.line.specs.Model.{Call, after, moved, refusal_to, event_of, output_of
 use Rattle.line.specs.Model.Call.{Begin, Put, End, Abandon}
 use Rattle.line.specs.Performs.{Performs, HandsBack, params_of, taken}
 use Rattle.line.specs.Performs as line
+use Rattle.line.proofs.Outcomes.{accepted_by, refused_stays}
+use Rattle.line.proofs.Performed.{answered}
 use Rattle.session.specs.Slips.{state_of, number_of, file_of, opens_of, owing, owed, numbers, IsKept, ended, why, handed}
-
-unless_refused : {A : Type 0} (f : Option Refusal) (a : Answer) (r : Refusal) (x y : A) → outcome f a ≡ Err r → unless f x y ≡ x
-unless_refused (Some q) a r x y e = refl
-unless_refused None a r x y e = absurd (let z : ◌≡◌ {A = ℕ} 0 1 = cc in omega arith)
-
-none_of : (f : Option Refusal) (a b : Answer) → outcome f a ≡ Ok b → f ≡ None
-none_of None a b e = refl
-none_of (Some q) a b e = absurd (let z : ◌≡◌ {A = ℕ} 0 1 = cc in omega arith)
 
 -- a call with a slip is accepted only while a file runs, with the slip that this file owes
 slip_owed : (a x y : Bool) (l f n g : ℕ) (rest : Option Refusal) → (x ≡ true → l ≡ n) → (y ≡ true → f ≡ g)
@@ -86,12 +80,7 @@ module _ {K C M : Type 0} where
     spent_err (Err back) h e = h.1
 
 module _ {K C M : Type 0} (opening : K → Bool) (steps : M → Steps) (meaning : C → Meaning) (old new : Line K C M) where
-  -- where a call left the line, and what it answered
-  state_is : (c : Call) (a : Result Answer Refusal) (o : List ℕ) → Performs opening steps meaning old c a o new
-      → state_of new ≡ unless (refusal_to (params_of opening steps meaning old) (state_of old) c) (state_of old) (moved (params_of opening steps meaning old) (state_of old) c)
-  unfolding after
-  state_is c a o h = sym (ap (λ x. x.state) h.did)
-
+  -- what a call answered, and where it left the line
   pub answer_is : (c : Call) (a : Result Answer Refusal) (o : List ℕ) → Performs opening steps meaning old c a o new
       → outcome (refusal_to (params_of opening steps meaning old) (state_of old) c) (answer (number_of old) (opens_of opening old) (state_of old) (event_of (params_of opening steps meaning old) (state_of old) c)) ≡ a
   unfolding after
@@ -99,17 +88,17 @@ module _ {K C M : Type 0} (opening : K → Bool) (steps : M → Steps) (meaning 
 
   accepted : (c : Call) (a : Answer) (o : List ℕ) → Performs opening steps meaning old c (Ok a) o new
       → refusal_to (params_of opening steps meaning old) (state_of old) c ≡ None
-  accepted c a o h = none_of _ _ a (answer_is c (Ok a) o h)
+  accepted c a o h = accepted_by (params_of opening steps meaning old) (state_of old) c a (ap (λ x. x.answer) h.did)
 
   accepted_state : (c : Call) (a : Answer) (o : List ℕ) → Performs opening steps meaning old c (Ok a) o new
       → state_of new ≡ moved (params_of opening steps meaning old) (state_of old) c
-  accepted_state c a o h =
-      state_is c (Ok a) o h ∙ ap (λ f. unless f (state_of old) (moved (params_of opening steps meaning old) (state_of old) c)) (accepted c a o h)
+  accepted_state c a o h = (answered (params_of opening steps meaning old) (state_of old) c (state_of new) a o h.did).1
 
   -- a refusal leaves what is owed
   pub refused_owed : (c : Call) (r : Refusal) (o : List ℕ) → Performs opening steps meaning old c (Err r) o new → owed new ≡ owed old
   refused_owed c r o h =
-      let e = state_is c (Err r) o h ∙ unless_refused _ _ r _ _ (answer_is c (Err r) o h) in
+      let e : state_of new ≡ state_of old =
+      sym (ap (λ x. x.state) h.did) ∙ refused_stays (params_of opening steps meaning old) (state_of old) c r (ap (λ x. x.answer) h.did) in
       λ i. owing (is_some (e i).running) (h.number i) (e i).files
 
   -- and so does a put
