@@ -19,10 +19,11 @@ impl<K: Kind, C: Cipher, M: Mode> Line<K, C, M> {
         ensures made { Made kind cipher mode number result }
         ensures laws { Laws (K.Kind.opening kind) (C.Cipher.meaning cipher) (M.Mode.steps mode) number }
     {
+        let machine = Machine::new();
         Line {
             block_mode: BlockMode::new(kind, cipher, mode),
             number,
-            machine: Machine::new(),
+            machine,
         }
     }
 

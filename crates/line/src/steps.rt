@@ -15,7 +15,7 @@ use cipher::Cipher;
 use mode::Mode;
 
 impl<K: Kind, C: Cipher, M: Mode> Line<K, C, M> {
-    /// Decides a call by the rules, and counts it where it is accepted.
+    /// Decides a call that takes no block by the rules, and counts it where it is accepted.
     fn decide(&mut self, event: Event) -> Result<Answer, Refusal>
         ensures result { result ≡ outcome (refusal_of self.old.number self.old.machine.state event) (answer_to self.old.number (K.Kind.opening self.old.block_mode.kind) self.old.machine.state event) }
         ensures after { self.new.machine.state ≡ unless (refusal_of self.old.number self.old.machine.state event) self.old.machine.state (next self.old.machine.state event) }
@@ -35,11 +35,13 @@ impl<K: Kind, C: Cipher, M: Mode> Line<K, C, M> {
     pub(crate) fn put_step(&mut self, input: &[u8], output: &mut [u8]) -> Result<Answer, Refusal>
         ensures { Performs K.Kind.opening M.Mode.steps C.Cipher.meaning self.old (Put input.now output.old) result output.new self.new }
     {
-        let answer = self.decide(Event::Put {
+        let through = self.block_mode.directed();
+        let event = Event::Put {
             input: input.len(),
             output: output.len(),
-        })?;
-        let register = self.block_mode.pass(self.register(), input, output);
+        };
+        let answer = self.machine.advance(self.number, through.opens(), event)?;
+        let register = through.pass(self.machine.state().register, input, output);
         self.machine.set_register(register);
         Ok(answer)
     }
@@ -53,14 +55,16 @@ impl<K: Kind, C: Cipher, M: Mode> Line<K, C, M> {
     ) -> Result<Answer, Refusal>
         ensures { Performs K.Kind.opening M.Mode.steps C.Cipher.meaning self.old (End line file input.now output.old) result output.new self.new }
     {
-        let last = self.block_mode.last_block(self.register(), input);
-        let answer = self.decide(Event::End {
+        let through = self.block_mode.directed();
+        let last = through.last_block(self.machine.state().register, input);
+        let event = Event::End {
             line,
             file,
             last,
             output: output.len(),
-        })?;
-        self.block_mode.write_last(last, output);
+        };
+        let answer = self.machine.advance(self.number, through.opens(), event)?;
+        through.write_last(last, output);
         Ok(answer)
     }
 

@@ -9,7 +9,7 @@ use session::Session;
 use std::process::Abort;
 use std::test::Fail;
 
-/// What can be read off a session, its state and the numbers of its slip: a refused call leaves both as they were.
+/// What can be read off a session, its line's counts one by one and the numbers of its slip: a refused call leaves both as they were.
 #[derive(Clone, Copy, PartialEq, Eq, Debug)]
 pub(crate) struct Seen {
     pub(crate) state: State,
@@ -18,8 +18,15 @@ pub(crate) struct Seen {
 
 impl Seen {
     pub(crate) fn of<K: Kind + Drop, M: Mode + Drop>(session: &Session<K, Misty1, M>) -> Seen {
+        let line = session.line();
         Seen {
-            state: session.state(),
+            state: State {
+                register: line.register(),
+                used: line.used(),
+                files: line.files(),
+                blocks: line.blocks(),
+                running: line.is_running().then_some(line.files()),
+            },
             slip: session.slip(),
         }
     }

@@ -34,6 +34,13 @@ impl<K: Kind + Drop, C: Cipher + Drop, M: Mode + Drop> Session<K, C, M> {
         self.line.state()
     }
 
+    /// The line, for reading.
+    pub fn line(&self) -> &Line<K, C, M>
+        ensures { result.now ≡ self.now.line }
+    {
+        &self.line
+    }
+
     /// The line's number.
     pub fn number(&self) -> u8
         ensures { result ≡ number_of self.now.line }

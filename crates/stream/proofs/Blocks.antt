@@ -121,6 +121,15 @@ last_written opens l size n front old es en ef =
     let count : length front ≡ n = ap length ef ∙ length-take-le n bytes (omega arith) in
     ap (λ k. front ++ drop k old) (sym count) ∙ ap (λ f. overwritten f old) fits
 
+-- the same over any buffer, of as many bytes as a last block writes
+pub last_written_whole : (opens : Bool) (l : Last) (n : ℕ) (front old : List ℕ)
+    → front ≡ take n (bytes_of l.block) → n ≡ cond opens (unwrap_or l.tail 0) 8 → n ≤ 8
+    → front ++ drop n old ≡ overwritten (last_bytes opens (Some l)) old
+last_written_whole opens l n front old ef en within =
+    let same : last_bytes opens (Some l) ≡ front = last_front opens l n en ∙ sym ef in
+    let long : length front ≡ n = ap length ef ∙ length-take-le n (bytes_of l.block) (omega (arith, length-bytes l.block)) in
+    ap (λ k. front ++ drop k old) (sym long) ∙ ap (λ f. overwritten f old) (sym same)
+
 pub none_written : (opens : Bool) (last : Option Last) (old : List ℕ) → last ≡ None → old ≡ overwritten (fitting (last_bytes opens last) old) old
 none_written opens last old e =
     sym (ap (λ f. overwritten f old) (ap (λ o. fitting (last_bytes opens o) old) e ∙ take_all (length old) [] (omega arith)))

@@ -1,12 +1,20 @@
 -- Lists of blocks through a step. Assumes nothing.
+use denote.Ref.{Bor}
 use Rattle.std.proofs.Common.{◌≡◌, ℕ, suc, Bool, true, false, not, List, [], ◌∷◌, map, length, sym, refl, ap, ◌∙◌}
 use Rattle.block.specs.Block.{IsBlock, AllBlocks, flip}
 use Rattle.cipher.specs.Meaning.{Meaning, Sound, Same}
 use Rattle.mode.specs.Steps.{Steps, Agree, Lawful}
-use Rattle.stream.specs.Stream.{step_of, outs, last_register}
+use Rattle.stream.specs.Stream.{step_of, step_through, outs, last_register}
+use Rattle.stream.specs.declared.BlockMode.{BlockMode}
 
 abbrev pub Step : Type 0
 Step = ℕ → ℕ → ℕ × ℕ
+
+-- the step of what is borrowed with its direction known is the step of what was lent
+pub directed_step : {K C M : Type 0} (opening : K → Bool) (steps : M → Steps) (meaning : C → Meaning) (b : BlockMode K C M) (d : BlockMode Bool (Bor C) (Bor M))
+    → d.kind ≡ opening b.kind → d.cipher.now ≡ b.cipher → d.mode.now ≡ b.mode
+    → step_through (λ opens. opens) (λ m. steps m.now) (λ k. meaning k.now) d ≡ step_through opening steps meaning b
+directed_step opening steps meaning b d kind cipher mode = λ i. step_of (kind i) (steps (mode i)) (meaning (cipher i))
 
 -- a step leads from blocks to blocks
 pub record Closed (f : Step) : Type 0 where

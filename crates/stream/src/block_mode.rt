@@ -6,7 +6,7 @@ ghost use Rattle.stream.specs.Stream.{step_through, outs, last_register, last_of
 
 use crate::BlockMode;
 use crate::kind::Kind;
-use crate::last::Last;
+use crate::last::{Last, write_last};
 use cipher::Cipher;
 use mode::Mode;
 
@@ -25,6 +25,19 @@ impl<K: Kind, C: Cipher, M: Mode> BlockMode<K, C, M> {
         ensures { result ≡ K.Kind.opening self.now.kind }
     {
         self.kind.opens()
+    }
+
+    /// The same, borrowed, with the kind asked once which way it goes: a kind of one's own may take its time to tell.
+    pub fn directed(&self) -> BlockMode<bool, &C, &M>
+        ensures kind { result.kind ≡ K.Kind.opening self.now.kind }
+        ensures cipher { result.cipher.now ≡ self.now.cipher }
+        ensures mode { result.mode.now ≡ self.now.mode }
+    {
+        BlockMode {
+            kind: self.kind.opens(),
+            cipher: &self.cipher,
+            mode: &self.mode,
+        }
     }
 
     /// The whole blocks of `input`, first to last, each through the step to the front of `output`. Each takes the register
@@ -61,7 +74,7 @@ impl<K: Kind, C: Cipher, M: Mode> BlockMode<K, C, M> {
         }
 
         let room = input.len().min(output.len());
-        blocks(self, start, &input[0..room], output)
+        blocks(&self.directed(), start, &input[0..room], output)
     }
 
     /// A file's last block through the step; none where `input` is no tail, or no block.
@@ -75,17 +88,6 @@ impl<K: Kind, C: Cipher, M: Mode> BlockMode<K, C, M> {
     pub fn write_last(&self, last: Option<Last>, output: &mut [u8])
         ensures { output.new ≡ overwritten (fitting (last_bytes (K.Kind.opening self.now.kind) last) output.old) output.old }
     {
-        let Some(last) = last else {
-            return;
-        };
-        let bytes = block::to_bytes(last.block);
-        // A number that the kind decides, and not a step: a method of the kind for it would be no plainer.
-        let size = if self.kind.opens() {
-            last.tail.unwrap_or(0)
-        } else {
-            8
-        };
-        let n = size.min(8).min(output.len());
-        output[0..n].copy_from_slice(&bytes[0..n]);
+        write_last(self.kind.opens(), last, output);
     }
 }

@@ -23,6 +23,8 @@ pub trait Kind {
         register: u64,
         block: u64,
     ) -> (u64, u64)
+    where
+        Self: Sized,
         ensures { result ≡ step_through opening M.Mode.steps C.Cipher.meaning through.now register block }
     {
         if through.kind.opens() {
@@ -39,6 +41,8 @@ pub trait Kind {
         register: u64,
         input: &[u8],
     ) -> Option<Last>
+    where
+        Self: Sized,
         ensures { result ≡ last_of (opening through.now.kind) (step_through opening M.Mode.steps C.Cipher.meaning through.now) register input.now }
     {
         if through.kind.opens() {

@@ -1,6 +1,6 @@
 // The last block of a file: a tail and its pad on the way in, a padded block on the way out.
 ghost use Rattle.std.specs.Prelude.{◌≡◌};
-ghost use Rattle.stream.specs.Stream.{sealed_last_of, opened_last_of};
+ghost use Rattle.stream.specs.Stream.{step_of, sealed_last_of, opened_last_of, last_of, last_bytes, fitting, overwritten};
 
 use crate::BlockMode;
 use cipher::Cipher;
@@ -54,4 +54,32 @@ pub(crate) fn opened_last<K, C: Cipher, M: Mode>(
         register,
         tail: padding::tail_length(block::to_bytes(block)),
     })
+}
+
+/// A file's last block through the step; none where `input` is no tail, or no block.
+pub fn last_block<C: Cipher, M: Mode>(
+    opens: bool,
+    cipher: &C,
+    mode: &M,
+    register: u64,
+    input: &[u8],
+) -> Option<Last>
+    ensures { result ≡ last_of opens (step_of opens (M.Mode.steps mode.now) (C.Cipher.meaning cipher.now)) register input.now }
+{
+    BlockMode::new(opens, cipher, mode).last_block(register, input)
+}
+
+/// Writes what the end of a file gives, the sealed block or the tail alone, as far as `output` has room for it. It takes no cipher
+/// and no mode.
+pub fn write_last(opens: bool, last: Option<Last>, output: &mut [u8])
+    ensures { output.new ≡ overwritten (fitting (last_bytes opens last) output.old) output.old }
+{
+    let Some(last) = last else {
+        return;
+    };
+    let bytes = block::to_bytes(last.block);
+    // A number that the flag decides, and not a step: a method of the kind for it would be no plainer.
+    let size = if opens { last.tail.unwrap_or(0) } else { 8 };
+    let n = size.min(8).min(output.len());
+    output[0..n].copy_from_slice(&bytes[0..n]);
 }

@@ -1,3 +1,4 @@
 pub mod Handed
 pub mod Pairs
 pub mod Refused
+pub mod Left

@@ -1,5 +1,6 @@
 // The pay file through a line: sealed by one, opened by another.
-ghost use Rattle.std.specs.Prelude.{◌≡◌, true};
+ghost use Rattle.std.specs.Prelude.{◌≡◌, true, None, IfOk};
+ghost use Rattle.session.specs.Slips.{owed};
 
 use crate::pay::{BODY, FILE, NUMBER, START};
 use crate::trouble::Trouble;
@@ -9,11 +10,10 @@ use misty1::Misty1;
 use mode::Mode;
 use session::Session;
 use session::ends::Ends;
-use std::alloc::Global;
 
 /// What a line made of a file.
-#[derive(Drop)]
-pub struct Passage {
+#[derive(Clone, Copy)]
+pub struct Passage<'a> {
     /// The numbers of the slip, its line and its file.
     pub slip: (u8, u16),
     pub begun: State,
@@ -25,31 +25,32 @@ pub struct Passage {
     pub blocks: u32,
     pub ended: State,
     /// The bytes that the end wrote.
-    pub last: Vec<u8>,
+    pub last: &'a [u8],
 }
 
 /// A file that was carried through both lines.
-#[derive(Drop)]
-pub struct Carried {
-    pub sealed: Passage,
-    pub opened: Passage,
+#[derive(Clone, Copy)]
+pub struct Carried<'a> {
+    pub sealed: Passage<'a>,
+    pub opened: Passage<'a>,
 }
 
-/// Takes a file through a line: its whole blocks, and then its tail or its last block.
-pub(crate) fn pass<K: Ends + Drop, M: Mode + Drop>(
-    heap: Global,
-    mut session: Session<K, Misty1, M>,
+/// Takes a file through a line: its whole blocks, and then its tail or its last block, whose end writes into `room`. A file that it
+/// began has ended where it answers.
+pub(crate) fn pass<'a, K: Ends + Drop, M: Mode + Drop>(
+    session: &mut Session<K, Misty1, M>,
     whole: &[u8],
     last: &[u8],
-) -> Result<Passage, Trouble> {
+    room: &'a mut [u8; 8],
+) -> Result<Passage<'a>, Trouble>
+    ensures { IfOk result (λ _. owed session.new.line ≡ None) }
+{
     let mut body = [0; BODY];
-    let mut end = Vec::from_slice(heap, &[0; 8])?;
     session.begin(START)?;
     let (slip, begun) = (session.slip().unwrap(), session.state());
     let taken = session.put(whole, &mut body)?;
     let put = session.state();
-    let (blocks, written) = session.end(last, &mut end)?;
-    end.truncate(written);
+    let (blocks, written) = session.end(last, room)?;
     Ok(Passage {
         slip,
         begun,
@@ -58,31 +59,33 @@ pub(crate) fn pass<K: Ends + Drop, M: Mode + Drop>(
         body,
         blocks,
         ended: session.state(),
-        last: end,
+        last: &room[0..written.min(8)],
     })
 }
 
-/// Seals the pay file on a line just made, and opens what came out on another.
-pub(crate) fn carry<M: Mode + Copy>(
-    heap: Global,
+/// Seals the pay file on a line just made, and opens what came out on another. The ends write into what is lent, so that nothing here
+/// can fail for want of memory.
+pub(crate) fn carry<'a, M: Mode + Copy>(
     cipher: Misty1,
     mode: M,
-) -> Result<Carried, Trouble> {
+    sealed_end: &'a mut [u8; 8],
+    opened_end: &'a mut [u8; 8],
+) -> Result<Carried<'a>, Trouble> {
     let (whole, tail) = FILE.split_at(BODY);
-    let sealing = Session::new(Sealing, cipher, mode, NUMBER);
-    let sealed = pass(heap, sealing, whole, tail)?;
-    let opening = Session::new(Opening, cipher, mode, NUMBER);
-    let opened = pass(heap, opening, &sealed.body, &sealed.last)?;
+    let sealing = &mut Session::new(Sealing, cipher, mode, NUMBER);
+    let sealed = pass(sealing, whole, tail, sealed_end)?;
+    let opening = &mut Session::new(Opening, cipher, mode, NUMBER);
+    let opened = pass(opening, &sealed.body, sealed.last, opened_end)?;
     Ok(Carried { sealed, opened })
 }
 
-impl Carried {
+impl Carried<'_> {
     /// Whether the opening line wrote these whole blocks and this tail.
     pub(crate) fn opened_to(&self, body: &[u8], tail: &[u8]) -> bool
         ensures body { result ≡ true → self.now.opened.body ≡ body.now }
-        ensures tail { result ≡ true → self.now.opened.last.items ≡ tail.now }
+        ensures tail { result ≡ true → self.now.opened.last.now ≡ tail.now }
     {
-        self.opened.body.as_slice() == body && self.opened.last.as_slice() == tail
+        self.opened.body.as_slice() == body && self.opened.last == tail
     }
 
     /// Whether both lines stood alike after each call.

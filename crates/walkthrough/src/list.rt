@@ -265,6 +265,7 @@ pub(crate) fn lists(rt: &HostRuntime, cipher: Misty1) -> Result<(), Trouble> {
     )?;
     first.tell(rt)?;
     let (calls, sealed) = (first.second_calls(heap)?, first.bytes_written(heap)?);
+    let plain = first.bytes_taken(heap)?;
     let second = Run::new(Opening, cipher, &calls, &sealed)?;
     println!(rt;
         "The second list has the calls that were accepted, with the same start values and slips,\n\
@@ -272,7 +273,7 @@ pub(crate) fn lists(rt: &HostRuntime, cipher: Misty1) -> Result<(), Trouble> {
         Opening line {NUMBER}"
     )?;
     second.tell(rt)?;
-    let (opened, plain) = (second.bytes_written(heap)?, first.bytes_taken(heap)?);
+    let opened = second.bytes_written(heap)?;
     let (back, alike) = (word(opened == plain), word(first.left == second.left));
     println!(rt;
         "Comparison\n\

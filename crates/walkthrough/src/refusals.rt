@@ -1,6 +1,8 @@
 // Calls that are refused.
-ghost use Rattle.std.specs.Prelude.{◌≡◌, ◌↔◌, true, Some, IfOk};
+ghost use Rattle.std.specs.Prelude.{◌≡◌, ◌≢◌, true, Some, None};
 ghost use Rattle.std.specs.Result.{result_err};
+ghost use Rattle.protocol.specs.Rules.{fresh};
+ghost use Rattle.session.specs.Slips.{state_of, number_of, owed};
 ghost use Rattle.protocol.specs.declared.refusal.Refusal.TheVariants.{PutWhileIdle, NotWholeBlocks, AlreadyRunning, ForeignSlip};
 
 use crate::carry::pass;
@@ -67,61 +69,73 @@ struct SealingAttempts {
     foreign: Attempt,
 }
 
-/// Tries what a sealing line refuses, and then abandons its file and that of the other line.
-fn try_sealing(cipher: Misty1) -> Result<SealingAttempts, Trouble>
-    ensures idle { IfOk result (λ a. a.idle.refused ≡ Some PutWhileIdle) }
-    ensures odd { IfOk result (λ a. a.odd.refused ≡ Some NotWholeBlocks) }
-    ensures again { IfOk result (λ a. a.again.refused ≡ Some AlreadyRunning) }
-    ensures foreign { IfOk result (λ a. a.foreign.refused ≡ Some ForeignSlip) }
+/// Tries what a sealing line refuses, and then abandons its file and that of the other line. Both lines are as they were made, and
+/// have numbers of their own, so no begin and no abandon is refused; and no file is left running.
+fn try_sealing(
+    session: &mut Session<Sealing, Misty1, Cbc>,
+    other: &mut Session<Sealing, Misty1, Cbc>,
+) -> SealingAttempts
+    requires new { state_of session.old.line ≡ fresh }
+    requires new_other { state_of other.old.line ≡ fresh }
+    requires apart { number_of session.old.line ≢ number_of other.old.line }
+    ensures idle { result.idle.refused ≡ Some PutWhileIdle }
+    ensures odd { result.odd.refused ≡ Some NotWholeBlocks }
+    ensures again { result.again.refused ≡ Some AlreadyRunning }
+    ensures foreign { result.foreign.refused ≡ Some ForeignSlip }
+    ensures left { owed session.new.line ≡ None }
+    ensures left_other { owed other.new.line ≡ None }
 {
     let mut output = [0; 16];
-    let mut session = Session::new(Sealing, cipher, Cbc, NUMBER);
-    let mut other = Session::new(Sealing, cipher, Cbc, OTHER);
     let new = session.state();
     let idle = session.put(&FILE[0..8], &mut output);
     let idle = Attempt::new(new, idle, session.state());
-    session.begin(START)?;
-    other.begin(START)?;
+    session.begin(START).unwrap();
+    other.begin(START).unwrap();
     let (slip, begun) = (session.slip().unwrap(), session.state());
     let odd = session.put(&FILE[0..9], &mut output);
     let odd = Attempt::new(begun, odd, session.state());
     let again = session.begin(START);
     let again = Attempt::new(begun, again, session.state());
-    let foreign = session.end_by(&mut other, b"58\n", &mut output).unwrap();
+    let foreign = session.end_by(other, b"58\n", &mut output).unwrap();
     let foreign = Attempt::new(begun, foreign, session.state());
-    other.abandon()?;
-    session.abandon()?;
-    Ok(SealingAttempts {
+    other.abandon().unwrap();
+    session.abandon().unwrap();
+    SealingAttempts {
         idle,
         slip,
         odd,
         again,
         foreign,
-    })
+    }
 }
 
-/// Ends an opening line's file with a block that has no pad, which is refused, and then abandons the file.
-fn no_pad(cipher: Misty1, block: &[u8]) -> Result<Attempt, Trouble> {
-    let mut session = Session::new(Opening, cipher, Cbc, NUMBER);
-    session.begin(START)?;
+/// Ends the file of an opening line just made with a block that has no pad, which is refused, and then abandons the file. No file is
+/// left running, also where the end was taken.
+fn no_pad(session: &mut Session<Opening, Misty1, Cbc>, block: &[u8]) -> Attempt
+    requires { state_of session.old.line ≡ fresh }
+    ensures { owed session.new.line ≡ None }
+{
+    session.begin(START).unwrap();
     let begun = session.state();
     let end = session.end(block, &mut [0; 8]);
     let attempt = Attempt::new(begun, end, session.state());
     if attempt.refused.is_some() {
-        session.abandon()?;
+        session.abandon().unwrap();
     }
-    Ok(attempt)
+    attempt
 }
 
 /// The refusals of a sealing line.
-fn sealing(rt: &HostRuntime, cipher: Misty1) -> Result<(), Trouble> {
+fn sealing(rt: &HostRuntime, cipher: Misty1) -> io::Result<()> {
+    let mut session = Session::new(Sealing, cipher, Cbc, NUMBER);
+    let mut other = Session::new(Sealing, cipher, Cbc, OTHER);
     let SealingAttempts {
         idle,
         slip: (own, file),
         odd,
         again,
         foreign,
-    } = try_sealing(cipher)?;
+    } = try_sealing(&mut session, &mut other);
     println!(rt;
         "Sealing line {NUMBER}, mode cbc\n\
         \x20 put 8 bytes while no file runs: {idle}\n\
@@ -131,16 +145,17 @@ fn sealing(rt: &HostRuntime, cipher: Misty1) -> Result<(), Trouble> {
         \x20 end with slip (8, 1), which is of line 8: {foreign}\n\
         \x20 The refused end handed slip (8, 1) back: line 8 took it and abandoned its file.\n\
         \x20 Line {NUMBER} then abandoned its file with its own slip.\n"
-    )?;
-    Ok(())
+    )
 }
 
 /// The refusal of an opening line.
 fn opening(rt: &HostRuntime, cipher: Misty1) -> Result<(), Trouble> {
     let (whole, tail) = FILE.split_at(BODY);
-    let sealing = Session::new(Sealing, cipher, Cbc, NUMBER);
-    let sealed = pass(rt.alloc(), sealing, whole, tail)?;
-    let attempt = no_pad(cipher, &sealed.body[0..8])?;
+    let mut room = [0; 8];
+    let sealing = &mut Session::new(Sealing, cipher, Cbc, NUMBER);
+    let sealed = pass(sealing, whole, tail, &mut room)?;
+    let opening = &mut Session::new(Opening, cipher, Cbc, NUMBER);
+    let attempt = no_pad(opening, &sealed.body[0..8]);
     println!(rt;
         "Opening line {NUMBER}, mode cbc\n\
         \x20 end with the first block of the sealed pay file, which has no pad: {attempt}\n\

@@ -56,7 +56,7 @@ fn sealing(rt: &HostRuntime, carried: &Carried) -> io::Result<()> {
     let (whole, tail) = FILE.split_at(BODY);
     let (tail, output, blocks, ended) = (
         Hex(tail),
-        Hex(&sealed.last),
+        Hex(sealed.last),
         sealed.blocks,
         Counts(sealed.ended),
     );
@@ -75,8 +75,8 @@ fn sealing(rt: &HostRuntime, carried: &Carried) -> io::Result<()> {
 fn opening(rt: &HostRuntime, carried: &Carried) -> io::Result<()> {
     let Carried { sealed, opened } = carried;
     let (input, output, blocks, ended) = (
-        Hex(&sealed.last),
-        Hex(&opened.last),
+        Hex(sealed.last),
+        Hex(opened.last),
         opened.blocks,
         Counts(opened.ended),
     );
@@ -109,7 +109,8 @@ pub(crate) fn in_full<M: Mode + Copy>(
     cipher: Misty1,
     mode: M,
 ) -> Result<(), Trouble> {
-    let carried = carry(rt.alloc(), cipher, mode)?;
+    let (mut sealed_end, mut opened_end) = ([0; 8], [0; 8]);
+    let carried = carry(cipher, mode, &mut sealed_end, &mut opened_end)?;
     sealing(rt, &carried)?;
     opening(rt, &carried)?;
     println!(rt; "Comparison")?;
@@ -124,7 +125,8 @@ pub(crate) fn in_short<M: Mode + Copy>(
     name: &str,
     mode: M,
 ) -> Result<(), Trouble> {
-    let carried = carry(rt.alloc(), cipher, mode)?;
+    let (mut sealed_end, mut opened_end) = ([0; 8], [0; 8]);
+    let carried = carry(cipher, mode, &mut sealed_end, &mut opened_end)?;
     println!(rt; "\n{name}")?;
     summary(rt, &carried)?;
     comparison(rt, &carried)?;
@@ -137,7 +139,7 @@ fn summary(rt: &HostRuntime, carried: &Carried) -> io::Result<()> {
     let ((line, file), taken) = (sealed.slip, sealed.taken);
     let (body, last, tail) = (
         Blocks(&sealed.body, " "),
-        Hex(&sealed.last),
+        Hex(sealed.last),
         opened.last.len(),
     );
     let (sealed, opened) = (Counts(sealed.ended), Counts(opened.ended));
