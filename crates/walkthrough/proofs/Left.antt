@@ -1,5 +1,5 @@
 -- Which calls of a session are accepted, and what its line owes after them. Assumes nothing.
-use Rattle.std.proofs.Common.{◌≡◌, ℕ, Bool, true, false, List, is_some, Some, None, Ok, Err, Result, refl, sym, ap, ◌∙◌, subst, arith}
+use Rattle.std.proofs.Common.{◌≡◌, ℕ, Bool, true, false, List, is_some, Some, None, Ok, Err, Option, Result, refl, sym, ap, ◌∙◌, subst, arith}
 use Rattle.std.specs.Prelude.{IfOk}
 use Rattle.std.specs.Result.{is_ok, result_err}
 use Rattle.cipher.specs.Meaning.{Meaning}
@@ -16,10 +16,14 @@ use Rattle.line.specs.Performs.{Performs, params_of, taken}
 use Rattle.line.proofs.Outcomes.{refused_stays}
 use Rattle.session.specs.Slips.{state_of, number_of, file_of, opens_of, owing, owed, begun, ended, abandoned}
 use Rattle.walkthrough.proofs.Refused.{idle_put}
-use Rattle.session.proofs.Kept.{answer_is, refused_owed, end_spent, abandon_spent, abandon_fits}
+use Rattle.session.proofs.Kept.{answer_is, end_spent, abandon_spent, abandon_fits}
 
 pub at_ok : {X E : Type 0} (P : X → Type 0) (r : Result X E) (x : X) → r ≡ Ok x → IfOk r P → P x
 at_ok P r x e h = subst (λ a. IfOk a P) e h
+
+pub none_is : {X : Type 0} (o : Option X) → is_some o ≡ false → o ≡ None
+none_is None e = refl
+none_is (Some x) e = absurd (let z : ◌≡◌ {A = ℕ} 0 1 = cc in omega arith)
 
 -- what is owed has the line's number and its last file's
 owing_is : (a : Bool) (n f : ℕ) → is_some (owing a n f) ≡ true → owing a n f ≡ Some (n, f)
@@ -51,16 +55,11 @@ module _ {K C M : Type 0} (opening : K → Bool) (steps : M → Steps) (meaning 
       absurd (let z : ◌≡◌ {A = ℕ} 0 1 = cc in omega arith)
   idle_kept input output (Err q) o e h = refused_state (Put input output) q o h
 
-  -- an end that was taken leaves nothing owed, and one that was refused what was owed
+  -- an end that was taken leaves nothing owed
   pub end_left : (line file : ℕ) (input output : List ℕ) (r : Result (ℕ × ℕ) Refusal) (o : List ℕ)
       → Performs opening steps meaning old (End line file input output) (ended (opens_of opening old) r) o new → is_some (result_err r) ≡ false → owed new ≡ None
   end_left line file input output (Ok e) o h ok = (end_spent opening steps meaning old new (record { line = line; file = file }) input output (Ok e) o h tt).1
   end_left line file input output (Err q) o h ok = absurd (let z : ◌≡◌ {A = ℕ} 0 1 = cc in omega arith)
-
-  pub end_kept : (line file : ℕ) (input output : List ℕ) (r : Result (ℕ × ℕ) Refusal) (o : List ℕ)
-      → Performs opening steps meaning old (End line file input output) (ended (opens_of opening old) r) o new → is_some (result_err r) ≡ true → owed new ≡ owed old
-  end_kept line file input output (Err p) o h e = refused_owed opening steps meaning old new (End line file input output) p o h
-  end_kept line file input output (Ok x) o h e = absurd (let z : ◌≡◌ {A = ℕ} 0 1 = cc in omega arith)
 
   -- a running file can be abandoned, and nothing is owed then
   pub abandons : (r : Result ℕ Refusal) (o : List ℕ) → is_some (owed old) ≡ true

@@ -5,6 +5,7 @@ ghost use Rattle.session.specs.Slips.{owed};
 use crate::pay::{BODY, FILE, NUMBER, START};
 use crate::trouble::Trouble;
 use line::kind::{Opening, Sealing};
+use line::refusal::Refusal;
 use line::state::State;
 use misty1::Misty1;
 use mode::Mode;
@@ -35,32 +36,55 @@ pub struct Carried<'a> {
     pub opened: Passage<'a>,
 }
 
-/// Takes a file through a line: its whole blocks, and then its tail or its last block, whose end writes into `room`. A file that it
-/// began has ended where it answers.
+/// Takes a file through a line: its whole blocks, and then its tail or its last block, whose end writes into `room`. No file runs on
+/// the session afterwards: one that could not be ended is given up.
 pub(crate) fn pass<'a, K: Ends + Drop, M: Mode + Drop>(
     session: &mut Session<K, Misty1, M>,
     whole: &[u8],
     last: &[u8],
     room: &'a mut [u8; 8],
 ) -> Result<Passage<'a>, Trouble>
-    ensures { IfOk result (λ _. owed session.new.line ≡ None) }
+    ensures { owed session.new.line ≡ None }
 {
-    let mut body = [0; BODY];
-    session.begin(START)?;
-    let (slip, begun) = (session.slip().unwrap(), session.state());
-    let taken = session.put(whole, &mut body)?;
-    let put = session.state();
-    let (blocks, written) = session.end(last, room)?;
-    Ok(Passage {
-        slip,
-        begun,
-        taken,
-        put,
-        body,
-        blocks,
-        ended: session.state(),
-        last: &room[0..written.min(8)],
-    })
+    // Ends the file that it began, unless a call is refused.
+    fn through<'a, K: Ends + Drop, M: Mode + Drop>(
+        session: &mut Session<K, Misty1, M>,
+        whole: &[u8],
+        last: &[u8],
+        room: &'a mut [u8; 8],
+    ) -> Result<Passage<'a>, Refusal>
+        ensures { IfOk result (λ _. owed session.new.line ≡ None) }
+    {
+        let mut body = [0; BODY];
+        session.begin(START)?;
+        let (slip, begun) = (session.slip().unwrap(), session.state());
+        let taken = session.put(whole, &mut body)?;
+        let put = session.state();
+        let (blocks, written) = session.end(last, room)?;
+        Ok(Passage {
+            slip,
+            begun,
+            taken,
+            put,
+            body,
+            blocks,
+            ended: session.state(),
+            last: &room[0..written.min(8)],
+        })
+    }
+
+    let passage = through(session, whole, last, room);
+    give_up(session);
+    Ok(passage?)
+}
+
+/// Abandons the file that runs on a session, if one does.
+pub(crate) fn give_up<K: Ends + Drop, M: Mode + Drop>(session: &mut Session<K, Misty1, M>)
+    ensures { owed session.new.line ≡ None }
+{
+    if session.slip().is_some() {
+        session.abandon().unwrap();
+    }
 }
 
 /// Seals the pay file on a line just made, and opens what came out on another. The ends write into what is lent, so that nothing here

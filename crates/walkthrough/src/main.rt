@@ -20,6 +20,8 @@ use std::process::ExitCode;
 use trouble::Trouble;
 
 /// The pay file in all the modes.
+// What it holds on the stack is to be gone before the notes that follow.
+#[inline(never)]
 fn modes(rt: &HostRuntime, cipher: Misty1) -> Result<(), Trouble> {
     println!(rt;
         "\n2. Through both lines in the mode cbc, call by call\n\n\

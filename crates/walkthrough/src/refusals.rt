@@ -5,7 +5,7 @@ ghost use Rattle.protocol.specs.Rules.{fresh};
 ghost use Rattle.session.specs.Slips.{state_of, number_of, owed};
 ghost use Rattle.protocol.specs.declared.refusal.Refusal.TheVariants.{PutWhileIdle, NotWholeBlocks, AlreadyRunning, ForeignSlip};
 
-use crate::carry::pass;
+use crate::carry::{give_up, pass};
 use crate::pay::{BODY, FILE, KEY, NUMBER, START};
 use crate::text::word;
 use crate::trouble::Trouble;
@@ -70,7 +70,7 @@ struct SealingAttempts {
 }
 
 /// Tries what a sealing line refuses, and then abandons its file and that of the other line. Both lines are as they were made, and
-/// have numbers of their own, so no begin and no abandon is refused; and no file is left running.
+/// have numbers of their own. No file is left running.
 fn try_sealing(
     session: &mut Session<Sealing, Misty1, Cbc>,
     other: &mut Session<Sealing, Misty1, Cbc>,
@@ -98,8 +98,8 @@ fn try_sealing(
     let again = Attempt::new(begun, again, session.state());
     let foreign = session.end_by(other, b"58\n", &mut output).unwrap();
     let foreign = Attempt::new(begun, foreign, session.state());
-    other.abandon().unwrap();
-    session.abandon().unwrap();
+    give_up(other);
+    give_up(session);
     SealingAttempts {
         idle,
         slip,
@@ -111,17 +111,15 @@ fn try_sealing(
 
 /// Ends the file of an opening line just made with a block that has no pad, which is refused, and then abandons the file. No file is
 /// left running, also where the end was taken.
-fn no_pad(session: &mut Session<Opening, Misty1, Cbc>, block: &[u8]) -> Attempt
-    requires { state_of session.old.line ≡ fresh }
-    ensures { owed session.new.line ≡ None }
+fn no_pad(opener: &mut Session<Opening, Misty1, Cbc>, block: &[u8]) -> Attempt
+    requires { state_of opener.old.line ≡ fresh }
+    ensures { owed opener.new.line ≡ None }
 {
-    session.begin(START).unwrap();
-    let begun = session.state();
-    let end = session.end(block, &mut [0; 8]);
-    let attempt = Attempt::new(begun, end, session.state());
-    if attempt.refused.is_some() {
-        session.abandon().unwrap();
-    }
+    opener.begin(START).unwrap();
+    let begun = opener.state();
+    let end = opener.end(block, &mut [0; 8]);
+    let attempt = Attempt::new(begun, end, opener.state());
+    give_up(opener);
     attempt
 }
 

@@ -2,7 +2,7 @@ use Rattle.std.proofs.Common.{◌≡◌, ne_eqb, eqb, false, is_some, None, refl
 use Rattle.session.specs.Slips.{number_of, owing, owed}
 use Rattle.session.proofs.Kept.{put_owed}
 use Rattle.walkthrough.proofs.Refused.{idle_put, odd_put, second_begin, foreign_end, put_err, begin_err, end_err, offers, at_some}
-use Rattle.walkthrough.proofs.Left.{at_ok, begins, idle_kept, end_kept, abandons}
+use Rattle.walkthrough.proofs.Left.{at_ok, begins, idle_kept}
 use Rattle.walkthrough.proofs.refusals.try_sealing.Goals as goal
 
 pub unwrap-requires : goal.unwrap-requires
@@ -21,27 +21,6 @@ unwrap-slip-requires c = ap is_some c.slip.ensures ∙ at_ok _ c.begin.result c.
 pub unwrap-foreign-requires : goal.unwrap-foreign-requires
 unwrap-foreign-requires c =
     offers c.end_by.result c.begin-2.new.self.line _ _ c.end_by.ensures.none (at_ok _ c.begin-2.result c.unwrap-2.result c.unwrap-2.ensures c.begin-2.ensures.runs)
-
-pub unwrap-requires-3 : goal.unwrap-requires-3
-unwrap-requires-3 c =
-    let runs = at_ok _ c.begin-2.result c.unwrap-2.result c.unwrap-2.ensures c.begin-2.ensures.runs in
-    (abandons _ _ _ c.end_by.new.other.line c.abandon.new.self.line c.abandon.result _ (ap (λ l. is_some (owed l)) c.end_by.ensures.other ∙ runs) c.abandon.ensures).0
-
-pub unwrap-requires-4 : goal.unwrap-requires-4
-unwrap-requires-4 c =
-    let line = c.begin-again.new.self.line in
-    let other = c.begin-2.new.self.line in
-    let runs = at_ok _ c.begin.result c.unwrap.result c.unwrap.ensures c.begin.ensures.runs in
-    let odd = put_owed _ _ _ c.begin.new.self.line c.put-odd.new.self.line _ _ c.put-odd.result _ c.put-odd.ensures in
-    let again = second_begin _ _ _ c.put-odd.new.self.line line _ _ (ap is_some odd ∙ runs) _ c.begin-again.ensures.did in
-    let owes = ap is_some (again.1 ∙ odd) ∙ runs in
-    let own = c.begin-again.ensures.did.number ∙ c.put-odd.ensures.number ∙ c.begin.ensures.did.number ∙ c.put-idle.ensures.number in
-    let apart : eqb (number_of other) (number_of line) ≡ false =
-    ne_eqb _ _ (λ e. c.requires.apart (sym own ∙ sym e ∙ c.begin-2.ensures.did.number)) in
-    let tried = at_some _ c.end_by.result c.unwrap-foreign.result c.unwrap-foreign.ensures c.end_by.ensures.some in
-    let foreign = foreign_end _ _ _ line c.end_by.new.self.line _ _ owes _ _ _ _ apart tried in
-    let kept = end_kept _ _ _ line c.end_by.new.self.line _ _ _ _ c.unwrap-foreign.result _ tried (ap is_some (end_err false c.unwrap-foreign.result _ foreign)) in
-    (abandons _ _ _ c.end_by.new.self.line c.abandon-2.new.self.line c.abandon-2.result _ (ap is_some kept ∙ owes) c.abandon-2.ensures).0
 
 pub returns-clause-idle : goal.returns-clause-idle
 returns-clause-idle c =
@@ -76,24 +55,3 @@ returns-clause-foreign c =
     c.new-foreign.ensures.refused
     ∙ end_err false c.unwrap-foreign.result _
     (foreign_end _ _ _ line c.end_by.new.self.line _ _ (ap is_some (again.1 ∙ odd) ∙ runs) _ _ _ _ apart tried)
-
-pub returns-clause-left : goal.returns-clause-left
-returns-clause-left c =
-    let line = c.begin-again.new.self.line in
-    let other = c.begin-2.new.self.line in
-    let runs = at_ok _ c.begin.result c.unwrap.result c.unwrap.ensures c.begin.ensures.runs in
-    let odd = put_owed _ _ _ c.begin.new.self.line c.put-odd.new.self.line _ _ c.put-odd.result _ c.put-odd.ensures in
-    let again = second_begin _ _ _ c.put-odd.new.self.line line _ _ (ap is_some odd ∙ runs) _ c.begin-again.ensures.did in
-    let owes = ap is_some (again.1 ∙ odd) ∙ runs in
-    let own = c.begin-again.ensures.did.number ∙ c.put-odd.ensures.number ∙ c.begin.ensures.did.number ∙ c.put-idle.ensures.number in
-    let apart : eqb (number_of other) (number_of line) ≡ false =
-    ne_eqb _ _ (λ e. c.requires.apart (sym own ∙ sym e ∙ c.begin-2.ensures.did.number)) in
-    let tried = at_some _ c.end_by.result c.unwrap-foreign.result c.unwrap-foreign.ensures c.end_by.ensures.some in
-    let foreign = foreign_end _ _ _ line c.end_by.new.self.line _ _ owes _ _ _ _ apart tried in
-    let kept = end_kept _ _ _ line c.end_by.new.self.line _ _ _ _ c.unwrap-foreign.result _ tried (ap is_some (end_err false c.unwrap-foreign.result _ foreign)) in
-    (abandons _ _ _ c.end_by.new.self.line c.abandon-2.new.self.line c.abandon-2.result _ (ap is_some kept ∙ owes) c.abandon-2.ensures).1
-
-pub returns-clause-left_other : goal.returns-clause-left_other
-returns-clause-left_other c =
-    let runs = at_ok _ c.begin-2.result c.unwrap-2.result c.unwrap-2.ensures c.begin-2.ensures.runs in
-    (abandons _ _ _ c.end_by.new.other.line c.abandon.new.self.line c.abandon.result _ (ap (λ l. is_some (owed l)) c.end_by.ensures.other ∙ runs) c.abandon.ensures).1
