@@ -53,10 +53,10 @@ impl<K: Ends + Drop, C: Cipher + Drop, M: Mode + Drop> Session<K, C, M> {
         ensures other { other.new.line ≡ other.old.line }
     {
         let slip = other.slip.take()?;
-        let tried = hand_back(&mut other.slip, K::end(&mut self.line, slip, input, output));
-        if tried.is_ok() {
+        let answer = hand_back(&mut other.slip, K::end(&mut self.line, slip, input, output));
+        if answer.is_ok() {
             mem::swap(&mut self.slip, &mut other.slip);
         }
-        Some(tried)
+        Some(answer)
     }
 }
